@@ -28,11 +28,13 @@ hold-times a b low = ⊎-elim small large (cases-lt (2 ^ 63 - 1) a)
   where
     more : (x : ℕ) → x ≤ x * b
     more x = omega (arith, mul-le-mul-left x low, mul-one x)
+
     small : 2 ^ 63 - 1 < a → min (min a (2 ^ 63 - 1) * b) (2 ^ 63 - 1) ≡ min (a * b) (2 ^ 63 - 1)
     small h =
         let e : min a (2 ^ 63 - 1) ≡ 2 ^ 63 - 1 = omega arith in
         let f : min a (2 ^ 63 - 1) * b ≡ (2 ^ 63 - 1) * b = ap (λ (x : ℕ). x * b) e in
         omega (arith, f, more a, more (2 ^ 63 - 1))
+
     large : a ≤ 2 ^ 63 - 1 → min (min a (2 ^ 63 - 1) * b) (2 ^ 63 - 1) ≡ min (a * b) (2 ^ 63 - 1)
     large h =
         let e : min a (2 ^ 63 - 1) ≡ a = omega arith in

@@ -11,13 +11,13 @@ hold z = saturated 63 z
 
 -- an entry: share × (parts ^ (left − 1) × amount + later value) more, each result held
 abbrev pub mean : Ops ℤ ℤ
-mean = record
-  { closing = λ w. w
-  ; blank = pos 0
-  ; enter = λ left parts share amount later account. hold (account +ℤ hold (pos share *ℤ hold (hold (hold (pos (parts ^ (left - 1))) *ℤ amount) +ℤ later)))
-  ; close = λ parts account. account
-  ; good = λ x y. leZ y x
-  }
+mean = record {
+  closing = λ w. w;
+  blank = pos 0;
+  enter = λ left parts share amount later account. hold (account +ℤ hold (pos share *ℤ hold (hold (hold (pos (parts ^ (left - 1))) *ℤ amount) +ℤ later)));
+  close = λ parts account. account;
+  good = λ x y. leZ y x;
+}
 
 abbrev pub at-least : ℤ → ℤ → Type 0
 at-least a b = b ≤ℤ a

@@ -5,6 +5,7 @@ ghost use Rattle.criteria.specs.Criteria.{Ops, Laws};
 // of one visit, one after another, and is then closed to a value. Each answer is from what is given alone.
 pub trait Criterion {
     type Value: Copy + Drop;
+
     type Account: Copy + Drop;
 
     ghost ops: { Self → Ops Self·Value Self·Account };
@@ -22,7 +23,15 @@ pub trait Criterion {
         ensures { λ r. ⌜ r ≡ ops (now (self .entry)) .blank ⌝ };
 
     // The account with one outcome more; `left` counts the visits left, this one too.
-    fn enter(&self, left: usize, parts: u32, share: u32, amount: i64, later: Self::Value, account: Self::Account) -> Self::Account
+    fn enter(
+        &self,
+        left: usize,
+        parts: u32,
+        share: u32,
+        amount: i64,
+        later: Self::Value,
+        account: Self::Account,
+    ) -> Self::Account
         ensures { λ r. ⌜ r ≡ ops (now (self .entry)) .enter left parts share amount later account ⌝ };
 
     fn close(&self, parts: u32, account: Self::Account) -> Self::Value

@@ -9,6 +9,7 @@ pub struct Floor;
 
 pub impl Criterion for Floor as FloorCriterion {
     type Value = i64;
+
     type Account = i64;
 
     ghost ops = { λ _. floor };
@@ -25,7 +26,15 @@ pub impl Criterion for Floor as FloorCriterion {
         i64::MAX
     }
 
-    fn enter(&self, _left: usize, _parts: u32, _share: u32, amount: i64, later: i64, account: i64) -> i64 {
+    fn enter(
+        &self,
+        _left: usize,
+        _parts: u32,
+        _share: u32,
+        amount: i64,
+        later: i64,
+        account: i64,
+    ) -> i64 {
         account.min(amount.saturating_add(later))
     }
 

@@ -31,6 +31,7 @@ fn held_power(base: u32, exponent: usize) -> i64
 
 pub impl Criterion for Mean as MeanCriterion {
     type Value = i64;
+
     type Account = i64;
 
     ghost ops = { λ _. mean };
@@ -47,7 +48,15 @@ pub impl Criterion for Mean as MeanCriterion {
         0
     }
 
-    fn enter(&self, left: usize, parts: u32, share: u32, amount: i64, later: i64, account: i64) -> i64 {
+    fn enter(
+        &self,
+        left: usize,
+        parts: u32,
+        share: u32,
+        amount: i64,
+        later: i64,
+        account: i64,
+    ) -> i64 {
         let scaled = held_power(parts, left.saturating_sub(1)).saturating_mul(amount);
         let onward = scaled.saturating_add(later);
         account.saturating_add(i64::from(share).saturating_mul(onward))

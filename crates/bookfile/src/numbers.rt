@@ -1,0 +1,68 @@
+// Numbers in base ten.
+ghost use mathlib.Core.Path.{_≡_};
+ghost use Prim.Native.Nat.{_≤_};
+ghost use Rattle.std.specs.Vec.{made};
+ghost use lib.IntN.{pos, negsuc};
+ghost use lib.Signed.{_≤ℤ_};
+use super::faults::FieldFault;
+use super::fields::Field;
+use super::fields::Placed;
+
+// The largest amount or worth that a file may have, either way.
+const MOST: u32 = 1_000_000;
+
+// The number that digits without a leading zero write, held at the greatest.
+fn decimal(part: &[u8]) -> Option<u32> {
+    match part {
+        [] => return None,
+        [b'0', _, ..] => return None,
+        _ => {}
+    }
+    let mut value: u32 = 0;
+    for b in part {
+        match *b {
+            b'0'..=b'9' => value = value
+                .saturating_mul(10)
+                .saturating_add(u32::from(*b - b'0')),
+            _ => return None,
+        }
+    }
+    Some(value)
+}
+
+// A number from `low` to `high`.
+pub fn natural(field: Placed<'_>, low: u32, high: u32) -> Result<u32, FieldFault>
+    ensures { λ r. ⌜ made r (λ n. (low ≤ n) × (n ≤ high)) ⌝ }
+{
+    let line = field.line;
+    let place = field.place;
+    let Field::Number(part) = field.field else {
+        return Err(FieldFault::Malformed { line, field: place });
+    };
+    match decimal(part) {
+        Some(n) if low <= n && n <= high => Ok(n),
+        Some(_) => Err(FieldFault::Range { line, field: place }),
+        None => Err(FieldFault::Malformed { line, field: place }),
+    }
+}
+
+// An amount or a worth: a minus stands before one below 0.
+pub fn money(field: Placed<'_>) -> Result<i64, FieldFault>
+    ensures { λ r. ⌜ made r (λ z. (negsuc 999999 ≤ℤ z) × (z ≤ℤ pos 1000000)) ⌝ }
+{
+    let line = field.line;
+    let place = field.place;
+    let Field::Number(part) = field.field else {
+        return Err(FieldFault::Malformed { line, field: place });
+    };
+    let (minus, size) = match part {
+        [b'-', digits @ ..] => (true, decimal(digits)),
+        _ => (false, decimal(part)),
+    };
+    match size {
+        Some(0) if minus => Err(FieldFault::Malformed { line, field: place }),
+        Some(n) if n <= MOST => Ok(if minus { -i64::from(n) } else { i64::from(n) }),
+        Some(_) => Err(FieldFault::Range { line, field: place }),
+        None => Err(FieldFault::Malformed { line, field: place }),
+    }
+}

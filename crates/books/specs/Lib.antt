@@ -1,0 +1,10 @@
+pub mod Refusals
+pub mod Alike
+pub mod Entries
+pub mod Listed
+pub mod Tables
+pub mod Making
+pub mod Lawfuls
+pub mod Means
+pub mod Made
+pub mod Kinds

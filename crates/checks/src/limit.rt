@@ -1,0 +1,67 @@
+use super::visit::visit_of;
+use model::Book;
+
+// The largest size of a worth.
+fn greatest_worth<B: Book>(book: &B) -> u64 {
+    let mut top: u64 = 0;
+    for condition in 0..book.conditions() {
+        top = top.max(book.worth(condition).unsigned_abs());
+    }
+    top
+}
+
+// The largest size of an amount of share above 0 under a remedy.
+fn greatest_under<B: Book>(book: &B, visit: usize, condition: usize, remedy: usize) -> u64 {
+    let mut top: u64 = 0;
+    for next in 0..book.conditions() {
+        if book.share(visit, condition, remedy, next) > 0 {
+            top = top.max(book.amount(visit, condition, remedy, next).unsigned_abs());
+        }
+    }
+    top
+}
+
+// The largest under a remedy that is offered there.
+fn greatest_in<B: Book>(book: &B, visit: usize, condition: usize) -> u64 {
+    let mut top: u64 = 0;
+    for remedy in 0..book.remedies() {
+        if book.offered(visit, condition, remedy) {
+            top = top.max(greatest_under(book, visit, condition, remedy));
+        }
+    }
+    top
+}
+
+// The largest at a visit, in any condition.
+fn greatest_at<B: Book>(book: &B, visit: usize) -> u64 {
+    let mut top: u64 = 0;
+    for condition in 0..book.conditions() {
+        top = top.max(greatest_in(book, visit, condition));
+    }
+    top
+}
+
+// The largest of 1, every worth, and every amount that may come at the visits, by size.
+fn peak<B: Book>(book: &B, visits: usize) -> u64 {
+    let mut top = greatest_worth(book).max(1);
+    for row in 0..visits {
+        top = top.max(greatest_at(book, visit_of(row)));
+    }
+    top
+}
+
+const LIMIT: u128 = 4_611_686_018_427_387_904;
+
+// Whether parts ^ visits × (visits + 1) × peak does not pass the limit.
+fn within_limit(parts: u32, visits: usize, peak: u64) -> bool {
+    let mut product = (visits as u128 + 1) * u128::from(peak);
+    for done in 0..visits {
+        product = product.saturating_mul(u128::from(parts));
+    }
+    product <= LIMIT
+}
+
+// Whether the numbers of the book stay small enough over the visits.
+pub(crate) fn fits<B: Book>(book: &B, visits: usize) -> bool {
+    within_limit(book.parts(), visits, peak(book, visits))
+}

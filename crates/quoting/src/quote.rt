@@ -1,0 +1,80 @@
+// From the bytes of an input to its plan.
+ghost use mathlib.Core.Path.{_≡_};
+ghost use Prim.Native.Nat.{_<_, _≤_};
+ghost use lib.ListN.{length};
+ghost use Rattle.quoting.specs.declared.fault.Fault.the-variants.{Long};
+ghost use Rattle.std.specs.declared.result.Result.the-variants.{Ok, Err};
+use super::fault::Fault;
+use super::fault::FaultFromFile;
+use super::fault::FaultFromMaking;
+use super::fault::FaultFromPlan;
+use super::fault::FaultFromQuestion;
+use super::question::Asked;
+use super::question::By;
+use super::question::asked_in;
+use super::tables::Quote;
+use super::tables::Tables;
+use bookfile::lines::cut_line;
+use bookfile::read::read;
+use books::list::ListBook;
+use books::list::ListBookBook;
+use checks::refusal::PlanRefusal;
+use criteria::floor::Floor;
+use criteria::floor::FloorCriterion;
+use criteria::mean::Mean;
+use criteria::mean::MeanCriterion;
+use model::Book;
+use planning::plan::plan;
+
+// The most bytes that an input may have.
+pub const LONGEST: usize = 32768;
+
+// Plans by the criterion that is asked for.
+fn planned<B: Book>(
+    book: &B,
+    asked: Asked,
+    values: &mut [i64],
+    remedies: &mut [u8],
+) -> Result<usize, PlanRefusal> {
+    match asked.by {
+        By::Mean => plan(book, &Mean, asked.visits, values, remedies),
+        By::Floor => plan(book, &Floor, asked.visits, values, remedies),
+    }
+}
+
+// Reads the input, plans in the tables, and answers what was planned or the first fault of any layer.
+pub fn quote(bytes: &[u8], tables: &mut Tables) -> Result<Quote, Fault>
+    ensures long { λ r. ⌜ (32768 < length (now (bytes .entry)) → r ≡ Err Long) ⌝ }
+{
+    if bytes.len() > LONGEST {
+        return Err(Fault::Long);
+    }
+    let (line, rest) = cut_line(0, bytes)?;
+    let asked = asked_in(line)?;
+    let found = read(
+        rest,
+        tables.records.as_mut_slice(),
+        tables.worths.as_mut_slice(),
+    )?;
+    let conditions = found.conditions;
+    let count = found.count;
+    let mut book = ListBook::blank();
+    book.remake(
+        conditions,
+        found.remedies,
+        found.parts,
+        &tables.records.as_slice()[0..count],
+        &tables.worths.as_slice()[0..conditions],
+    )?;
+    planned(
+        &book,
+        asked,
+        tables.values.as_mut_slice(),
+        tables.remedies.as_mut_slice(),
+    )?;
+    let entries = asked.visits * conditions;
+    Ok(Quote {
+        conditions,
+        entries,
+    })
+}
