@@ -3,16 +3,16 @@ ghost use mathlib.Core.Path.{_≡_};
 ghost use Prim.Native.Nat.{_<_, _≤_};
 ghost use Rattle.std.specs.Vec.{made};
 ghost use Rattle.bookfile.specs.Entries.{Small-sizes, Fits-sizes, Fits-entry};
-use super::faults::FieldFault;
-use super::faults::LineFault;
-use super::faults::LineFaultFromField;
-use super::fields::Fields;
-use super::fields::counted;
-use super::fields::letter;
-use super::lines::Line;
-use super::numbers::money;
-use super::numbers::natural;
 use books::record::Record;
+use fields::faults::FieldFault;
+use fields::faults::LineFault;
+use fields::faults::LineFaultFromField;
+use fields::lines::Line;
+use fields::numbers::money;
+use fields::numbers::natural;
+use fields::parts::Fields;
+use fields::parts::counted;
+use fields::parts::letter;
 
 // The sizes of a book.
 #[derive(Clone, Copy)]

@@ -1,8 +1,5 @@
-// The book file: lines of tab-separated fields, and reading them.
+// The book file, and reading it.
 mod entries;
 pub mod faults;
-pub mod fields;
-pub mod lines;
-pub mod numbers;
 mod progress;
 pub mod read;

@@ -9,10 +9,10 @@ use super::entries::entry_of;
 use super::entries::sizes_of;
 use super::faults::FileFault;
 use super::faults::FileFaultFromLine;
-use super::faults::LineFault;
-use super::lines::cut_line;
 use super::progress::Progress;
 use books::record::Record;
+use fields::faults::LineFault;
+use fields::lines::cut_line;
 
 // What a file was found to hold: its sizes and how many records it lists.
 #[derive(Clone, Copy, Debug, PartialEq)]

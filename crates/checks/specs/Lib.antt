@@ -1,2 +1,4 @@
-pub mod Acceptance
 pub mod Refusals
+pub mod Places
+pub mod Acceptance
+pub mod Limit

@@ -1,8 +1,14 @@
+ghost use mathlib.Core.Path.{_≡_};
+ghost use Rattle.std.specs.Orderings.{When};
+ghost use Rattle.model.specs.Visits.{Within-limit, Fits};
+ghost use Rattle.checks.specs.Limit.{Peak, greatest-worth, greatest-under, greatest-in, greatest-at};
 use super::visit::visit_of;
 use model::Book;
 
 // The largest size of a worth.
-fn greatest_worth<B: Book>(book: &B) -> u64 {
+fn greatest_worth<B: Book>(book: &B) -> u64
+    ensures { λ r. ⌜ r ≡ greatest-worth (model (now (book .entry))) ⌝ }
+{
     let mut top: u64 = 0;
     for condition in 0..book.conditions() {
         top = top.max(book.worth(condition).unsigned_abs());
@@ -11,7 +17,9 @@ fn greatest_worth<B: Book>(book: &B) -> u64 {
 }
 
 // The largest size of an amount of share above 0 under a remedy.
-fn greatest_under<B: Book>(book: &B, visit: usize, condition: usize, remedy: usize) -> u64 {
+fn greatest_under<B: Book>(book: &B, visit: usize, condition: usize, remedy: usize) -> u64
+    ensures { λ r. ⌜ r ≡ greatest-under (model (now (book .entry))) visit condition remedy ⌝ }
+{
     let mut top: u64 = 0;
     for next in 0..book.conditions() {
         if book.share(visit, condition, remedy, next) > 0 {
@@ -22,7 +30,9 @@ fn greatest_under<B: Book>(book: &B, visit: usize, condition: usize, remedy: usi
 }
 
 // The largest under a remedy that is offered there.
-fn greatest_in<B: Book>(book: &B, visit: usize, condition: usize) -> u64 {
+fn greatest_in<B: Book>(book: &B, visit: usize, condition: usize) -> u64
+    ensures { λ r. ⌜ r ≡ greatest-in (model (now (book .entry))) visit condition ⌝ }
+{
     let mut top: u64 = 0;
     for remedy in 0..book.remedies() {
         if book.offered(visit, condition, remedy) {
@@ -33,7 +43,9 @@ fn greatest_in<B: Book>(book: &B, visit: usize, condition: usize) -> u64 {
 }
 
 // The largest at a visit, in any condition.
-fn greatest_at<B: Book>(book: &B, visit: usize) -> u64 {
+fn greatest_at<B: Book>(book: &B, visit: usize) -> u64
+    ensures { λ r. ⌜ r ≡ greatest-at (model (now (book .entry))) visit ⌝ }
+{
     let mut top: u64 = 0;
     for condition in 0..book.conditions() {
         top = top.max(greatest_in(book, visit, condition));
@@ -42,7 +54,9 @@ fn greatest_at<B: Book>(book: &B, visit: usize) -> u64 {
 }
 
 // The largest of 1, every worth, and every amount that may come at the visits, by size.
-fn peak<B: Book>(book: &B, visits: usize) -> u64 {
+fn peak<B: Book>(book: &B, visits: usize) -> u64
+    ensures { λ r. ⌜ Peak (model (now (book .entry))) visits r ⌝ }
+{
     let mut top = greatest_worth(book).max(1);
     for row in 0..visits {
         top = top.max(greatest_at(book, visit_of(row)));
@@ -53,7 +67,9 @@ fn peak<B: Book>(book: &B, visits: usize) -> u64 {
 const LIMIT: u128 = 4_611_686_018_427_387_904;
 
 // Whether parts ^ visits × (visits + 1) × peak does not pass the limit.
-fn within_limit(parts: u32, visits: usize, peak: u64) -> bool {
+fn within_limit(parts: u32, visits: usize, peak: u64) -> bool
+    ensures { λ r. ⌜ When r (Within-limit parts visits peak) (Within-limit parts visits peak → ⊥) ⌝ }
+{
     let mut product = (visits as u128 + 1) * u128::from(peak);
     for done in 0..visits {
         product = product.saturating_mul(u128::from(parts));
@@ -62,6 +78,8 @@ fn within_limit(parts: u32, visits: usize, peak: u64) -> bool {
 }
 
 // Whether the numbers of the book stay small enough over the visits.
-pub(crate) fn fits<B: Book>(book: &B, visits: usize) -> bool {
+pub(crate) fn fits<B: Book>(book: &B, visits: usize) -> bool
+    ensures { λ r. ⌜ When r (Fits (model (now (book .entry))) visits) (Fits (model (now (book .entry))) visits → ⊥) ⌝ }
+{
     within_limit(book.parts(), visits, peak(book, visits))
 }

@@ -1,9 +1,5 @@
-ghost use mathlib.Core.Path.{_≡_};
-ghost use Prim.Native.Nat.{_*_};
-ghost use lib.ListN.{length};
-ghost use Rattle.std.specs.Results.{Cases as ByOk};
 ghost use Rattle.model.specs.Model.{offers};
-ghost use Rattle.checks.specs.Acceptance.{In-order, Room-declined};
+ghost use Rattle.checks.specs.Acceptance.{Room-checked, Numbers-checked, Plan-checked, Judge-checked};
 use super::limit::fits;
 use super::refusal::PlanRefusal;
 use super::search::first_misnamed;
@@ -18,7 +14,7 @@ fn check_room<B: Book>(
     values: usize,
     remedies: usize,
 ) -> Result<usize, PlanRefusal>
-    ensures { λ r. ⌜ ByOk r (λ n. (n ≡ visits * model (now (book .entry)) .conditions) × In-order (offers (model (now (book .entry)))) visits values remedies) (λ e. Room-declined (offers (model (now (book .entry)))) visits values remedies e) ⌝ }
+    ensures { λ r. ⌜ Room-checked (offers (model (now (book .entry)))) visits values remedies r ⌝ }
 {
     if visits < 1 || visits > 48 {
         return Err(PlanRefusal::Visits);
@@ -32,7 +28,9 @@ fn check_room<B: Book>(
 }
 
 // The shares and the number limit.
-fn check_numbers<B: Book>(book: &B, visits: usize) -> Result<(), PlanRefusal> {
+fn check_numbers<B: Book>(book: &B, visits: usize) -> Result<(), PlanRefusal>
+    ensures { λ r. ⌜ Numbers-checked (model (now (book .entry))) visits r ⌝ }
+{
     if let Some(place) = first_uneven(book, visits) {
         let (visit, condition, remedy) = place;
         return Err(PlanRefusal::Uneven {
@@ -54,7 +52,7 @@ pub fn check_plan<B: Book>(
     values: usize,
     remedies: usize,
 ) -> Result<usize, PlanRefusal>
-    ensures { λ r. ⌜ ByOk r (λ n. (n ≡ visits * model (now (book .entry)) .conditions) × In-order (offers (model (now (book .entry)))) visits values remedies) (λ e. Unit {0}) ⌝ }
+    ensures { λ r. ⌜ Plan-checked (model (now (book .entry))) visits values remedies r ⌝ }
 {
     let filled = check_room(book, visits, values, remedies)?;
     if let Some(place) = first_stuck(book, visits) {
@@ -72,7 +70,7 @@ pub fn check_judgement<B: Book>(
     values: usize,
     remedies: &[u8],
 ) -> Result<usize, PlanRefusal>
-    ensures { λ r. ⌜ ByOk r (λ n. (n ≡ visits * model (now (book .entry)) .conditions) × In-order (offers (model (now (book .entry)))) visits values (length (now (remedies .entry)))) (λ e. Unit {0}) ⌝ }
+    ensures { λ r. ⌜ Judge-checked (model (now (book .entry))) visits values (now (remedies .entry)) r ⌝ }
 {
     let filled = check_room(book, visits, values, remedies.len())?;
     if let Some(place) = first_misnamed(book, visits, remedies) {

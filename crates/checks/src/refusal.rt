@@ -1,3 +1,6 @@
+ghost use mathlib.Core.Path.{_≡_};
+ghost use Rattle.checks.specs.Refusals.{refusal-number, refusal-places};
+
 // Why planning or judging is declined. Places count as the book does.
 #[derive(Clone, Copy, Debug, PartialEq)]
 pub enum PlanRefusal {
@@ -28,7 +31,9 @@ pub enum PlanRefusal {
 
 impl PlanRefusal {
     // The number that it is reported by.
-    pub fn number(&self) -> u32 {
+    pub fn number(&self) -> u32
+        ensures { λ r. ⌜ r ≡ refusal-number (now (self .entry)) ⌝ }
+    {
         match self {
             PlanRefusal::Visits => 1,
             PlanRefusal::Short => 2,
@@ -40,7 +45,9 @@ impl PlanRefusal {
     }
 
     // Visit, condition and remedy, 0 where it has none.
-    pub fn places(&self) -> (usize, usize, usize) {
+    pub fn places(&self) -> (usize, usize, usize)
+        ensures { λ r. ⌜ r ≡ refusal-places (now (self .entry)) ⌝ }
+    {
         match *self {
             PlanRefusal::Stuck { visit, condition } => (visit, condition, 0),
             PlanRefusal::Uneven {

@@ -1,8 +1,18 @@
+ghost use mathlib.Core.Path.{_≡_};
+ghost use Prim.Native.Nat.{_*_, _≤_};
+ghost use lib.ListN.{length};
+ghost use Rattle.std.specs.Options.{Cases as BySome};
+ghost use Rattle.std.specs.Orderings.{When};
+ghost use Rattle.model.specs.Model.{offers, weight};
+ghost use Rattle.model.specs.Visits.{Some-offered, Unoffered, Open, Even};
+ghost use Rattle.checks.specs.Places.{First-stuck, First-uneven, First-misnamed, Well-named};
 use super::visit::visit_of;
 use model::Book;
 
 // Whether any remedy is offered there.
-fn any_offered<B: Book>(book: &B, visit: usize, condition: usize) -> bool {
+fn any_offered<B: Book>(book: &B, visit: usize, condition: usize) -> bool
+    ensures { λ r. ⌜ When r (Some-offered (offers (model (now (book .entry)))) visit condition) (Unoffered (offers (model (now (book .entry)))) visit condition) ⌝ }
+{
     for remedy in 0..book.remedies() {
         if book.offered(visit, condition, remedy) {
             return true;
@@ -12,7 +22,9 @@ fn any_offered<B: Book>(book: &B, visit: usize, condition: usize) -> bool {
 }
 
 // The first place where nothing is offered.
-pub(crate) fn first_stuck<B: Book>(book: &B, visits: usize) -> Option<(usize, usize)> {
+pub(crate) fn first_stuck<B: Book>(book: &B, visits: usize) -> Option<(usize, usize)>
+    ensures { λ r. ⌜ BySome r (Open (offers (model (now (book .entry)))) visits) (λ p. First-stuck (offers (model (now (book .entry)))) visits (p .0) (p .1)) ⌝ }
+{
     let conditions = book.conditions();
     let mut place = None;
     'places: for row in 0..visits {
@@ -28,16 +40,20 @@ pub(crate) fn first_stuck<B: Book>(book: &B, visits: usize) -> Option<(usize, us
 }
 
 // The sum of the shares of a remedy there.
-fn total_share<B: Book>(book: &B, visit: usize, condition: usize, remedy: usize) -> u32 {
-    let mut sum: u32 = 0;
+fn total_share<B: Book>(book: &B, visit: usize, condition: usize, remedy: usize) -> u32
+    ensures { λ r. ⌜ r ≡ weight (model (now (book .entry))) visit condition remedy (model (now (book .entry)) .conditions) ⌝ }
+{
+    let mut sum = 0;
     for next in 0..book.conditions() {
-        sum = sum.saturating_add(book.share(visit, condition, remedy, next));
+        sum += book.share(visit, condition, remedy, next);
     }
     sum
 }
 
 // The first offered remedy whose shares do not add to the parts, with its place.
-pub(crate) fn first_uneven<B: Book>(book: &B, visits: usize) -> Option<(usize, usize, usize)> {
+pub(crate) fn first_uneven<B: Book>(book: &B, visits: usize) -> Option<(usize, usize, usize)>
+    ensures { λ r. ⌜ BySome r (Even (model (now (book .entry))) visits) (λ p. First-uneven (model (now (book .entry))) visits (p .0) (p .1) (p .2)) ⌝ }
+{
     let conditions = book.conditions();
     let remedies = book.remedies();
     let parts = book.parts();
@@ -63,19 +79,19 @@ pub(crate) fn first_misnamed<B: Book>(
     book: &B,
     visits: usize,
     remedies: &[u8],
-) -> Option<(usize, usize, usize)> {
+) -> Option<(usize, usize, usize)>
+    requires { ⌜ visits * model (now book) .conditions ≤ length (now remedies) ⌝ }
+    ensures { λ r. ⌜ BySome r (Well-named (offers (model (now (book .entry)))) (now (remedies .entry)) visits) (λ p. First-misnamed (offers (model (now (book .entry)))) (now (remedies .entry)) visits (p .0) (p .1) (p .2)) ⌝ }
+{
     let conditions = book.conditions();
     let mut place = None;
     'places: for row in 0..visits {
         let visit = visit_of(row);
         for condition in 0..conditions {
-            let entry = row.saturating_mul(conditions).saturating_add(condition);
-            if entry < remedies.len() {
-                let remedy = usize::from(remedies[entry]);
-                if !book.offered(visit, condition, remedy) {
-                    place = Some((visit, condition, remedy));
-                    break 'places;
-                }
+            let remedy = usize::from(remedies[row * conditions + condition]);
+            if !book.offered(visit, condition, remedy) {
+                place = Some((visit, condition, remedy));
+                break 'places;
             }
         }
     }

@@ -1,1 +1,13 @@
 pub mod Powers
+pub mod Histories
+pub mod Optimal
+pub mod Offered
+pub mod Sums
+pub mod Courses
+pub mod Chances
+pub mod Rows
+pub mod Expected
+pub mod Least
+pub mod Best
+pub mod Mixed
+pub mod Example

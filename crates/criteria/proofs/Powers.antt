@@ -1,11 +1,11 @@
 -- Powers that are held within 64 bits with a sign.
-use mathlib.Core.Path.{_≡_, refl, sym, ap, _∙_}
-use mathlib.Core.Logic.{_⊎_, inl, inr, ⊎-elim}
+use mathlib.Core.Path.{_≡_, sym, ap, _∙_}
+use mathlib.Core.Logic.{⊎-elim}
 use Prim.Native.Nat.{ℕ, zero, suc, _+_, _*_, _-_, _^_, _≤_, _<_, min}
 use native.Mathlib.Omega.{arith}
-use native.Mathlib.Nat.{pow-zero, pow-suc, pow-succ', pow-le-pow-left, pow-le-pow-right, le-trans, mul-le-mul-left, mul-one, mul-zero, one-mul}
+use native.Mathlib.Nat.{pow-zero, pow-suc, pow-le-pow-left, pow-le-pow-right, le-trans, mul-le-mul-left, mul-one, mul-zero}
 use native.Mathlib.Numerals.{add-one}
-use lib.IntN.{ℤ, pos, _*ℤ_}
+use lib.IntN.{pos, _*ℤ_}
 use Rattle.std.proofs.shelf.Tests.{cases-lt}
 use Rattle.criteria.specs.Mean.{hold}
 

@@ -1,16 +1,12 @@
 -- Integers: products, sizes, what is held.
-use mathlib.Core.Path.{_≡_, refl, sym, ap, subst, _∙_}
-use mathlib.Core.Bool.{Bool, true, false, cond}
-use mathlib.Core.Logic.{_⊎_, inl, inr, ⊎-elim}
-use Prim.Native.Nat.{ℕ, zero, suc, _+_, _*_, _-_, _^_, _≤_, _<_, min}
+use mathlib.Core.Path.{_≡_, refl, ap}
+use Prim.Native.Nat.{ℕ, zero, suc, _+_, _*_, _^_, _≤_}
 use native.Mathlib.Omega.{arith}
-use native.Mathlib.Nat.{mul-le-mul-left, mul-le-mul}
-use lib.Dec.{T}
-use lib.IntN.{ℤ, pos, negsuc, negℤ, natAbs, _+ℤ_, _*ℤ_, *ℤ-comm}
-use lib.Signed.{leZ, _≤ℤ_}
-use borrow.Author.Differences.{up, down, sum-is, product-is, le-out, abs-is}
+use native.Mathlib.Nat.{mul-le-mul-left}
+use lib.IntN.{ℤ, pos, negsuc, negℤ, natAbs, _+ℤ_, _*ℤ_}
+use lib.Signed.{_≤ℤ_}
+use borrow.Author.Differences.{up, down, sum-is, product-is, le-out}
 use Rattle.std.proofs.shelf.Signed.{ints}
-use Rattle.std.specs.Numbers.{saturated}
 use Rattle.criteria.specs.Mean.{hold}
 
 pub times-sum : (a b c : ℤ) → a *ℤ (b +ℤ c) ≡ a *ℤ b +ℤ a *ℤ c

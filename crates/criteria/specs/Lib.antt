@@ -4,3 +4,9 @@ pub mod Mean
 pub mod Floor
 pub mod Ints
 pub mod Keeping
+pub mod Expected
+pub mod Courses
+pub mod Least
+pub mod Optimal
+pub mod Best
+pub mod Mixed

@@ -5,7 +5,7 @@ use mathlib.Core.List.{List, [], _∷_, _++_}
 use Prim.Native.Nat.{ℕ, zero, suc, _+_, _*_, _<_}
 use lib.Dec.{T, ltb}
 use lib.ListN.{length, getD}
-use Rattle.model.specs.Model.{Model, Offers, offers}
+use Rattle.model.specs.Model.{Model, Offers, offers, Lawful}
 use Rattle.model.specs.Visits.{visit-after}
 use Rattle.criteria.specs.Criteria.{Ops}
 
@@ -32,6 +32,13 @@ Choice = History → ℕ → ℕ
 -- a policy for some visits names an offered remedy after every history
 abbrev pub Policy : Offers → ℕ → Choice → Type 0
 Policy o visits p = (h : History) (s : ℕ) → length h < visits → Within o h → s < o .conditions → T (o .offered (next-visit h) s (p h s))
+
+-- whatever is offered is one of the remedies: all that some laws of policies need of a book
+abbrev pub Offers-its-own : Offers → Type 0
+Offers-its-own o = (n s r : ℕ) → T (o .offered n s r) → r < o .remedies
+
+abbrev pub Books-offer-their-own : Type 0
+Books-offer-their-own = (m : Model) → Lawful m → Offers-its-own (offers m)
 
 -- the history, and the visit that the choice makes of it in a condition
 abbrev pub onward : Choice → History → ℕ → History

@@ -1,1 +1,4 @@
+pub mod Steps
+pub mod Bests
 pub mod Tables
+pub mod Optimal

@@ -1,4 +1,9 @@
-use super::outcomes::remedied;
+ghost use mathlib.Core.Path.{_≡_};
+ghost use lib.ListN.{length};
+ghost use Rattle.std.specs.Options.{Cases as BySome};
+ghost use Rattle.planning.specs.Choosing.{Best, None-below, kept-of};
+ghost use Rattle.planning.specs.Tables.{at};
+use super::outcomes::value_under;
 use criteria::criterion::Criterion;
 use model::Book;
 
@@ -8,7 +13,9 @@ fn preferred<C: Criterion>(
     found: Option<(u8, C::Value)>,
     remedy: u8,
     value: C::Value,
-) -> (u8, C::Value) {
+) -> (u8, C::Value)
+    ensures { λ r. ⌜ r ≡ kept-of (ops (now (by .entry))) found (remedy, value) ⌝ }
+{
     match found {
         Some((held, top)) => {
             if by.good(top, value) {
@@ -29,11 +36,14 @@ pub(crate) fn best<B: Book, C: Criterion>(
     left: usize,
     condition: usize,
     later: &[C::Value],
-) -> Option<(u8, C::Value)> {
+) -> Option<(u8, C::Value)>
+    requires { ⌜ length (now later) ≡ model (now book) .conditions ⌝ }
+    ensures { λ r. ⌜ BySome r (None-below (model (now (book .entry))) visit condition (model (now (book .entry)) .remedies)) (λ p. Best (ops (now (by .entry))) (model (now (book .entry))) visit left condition (at (ops (now (by .entry))) (now (later .entry))) (model (now (book .entry)) .remedies) (p .0) (p .1)) ⌝ }
+{
     let mut found: Option<(u8, C::Value)> = None;
     for remedy in 0..book.remedies() {
         if book.offered(visit, condition, remedy) {
-            let value = remedied(book, by, visit, left, condition, remedy, later);
+            let value = value_under(book, by, visit, left, condition, remedy, later);
             found = Some(preferred(by, found, remedy as u8, value));
         }
     }

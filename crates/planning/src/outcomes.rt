@@ -1,3 +1,7 @@
+ghost use mathlib.Core.Path.{_≡_};
+ghost use lib.ListN.{length};
+ghost use Rattle.criteria.specs.Policies.{entered, remedied};
+ghost use Rattle.planning.specs.Tables.{at};
 use criteria::criterion::Criterion;
 use model::Book;
 
@@ -10,7 +14,10 @@ fn account<B: Book, C: Criterion>(
     condition: usize,
     remedy: usize,
     later: &[C::Value],
-) -> C::Account {
+) -> C::Account
+    requires { ⌜ length (now later) ≡ model (now book) .conditions ⌝ }
+    ensures { λ r. ⌜ r ≡ entered (ops (now (by .entry))) (model (now (book .entry))) visit left condition remedy (at (ops (now (by .entry))) (now (later .entry))) (model (now (book .entry)) .conditions) ⌝ }
+{
     let mut sum = by.blank();
     let parts = book.parts();
     for (next, value) in later.iter().enumerate() {
@@ -24,7 +31,7 @@ fn account<B: Book, C: Criterion>(
 }
 
 // The value of giving a remedy.
-pub(crate) fn remedied<B: Book, C: Criterion>(
+pub(crate) fn value_under<B: Book, C: Criterion>(
     book: &B,
     by: &C,
     visit: usize,
@@ -32,7 +39,10 @@ pub(crate) fn remedied<B: Book, C: Criterion>(
     condition: usize,
     remedy: usize,
     later: &[C::Value],
-) -> C::Value {
+) -> C::Value
+    requires { ⌜ length (now later) ≡ model (now book) .conditions ⌝ }
+    ensures { λ r. ⌜ r ≡ remedied (ops (now (by .entry))) (model (now (book .entry))) visit left condition remedy (at (ops (now (by .entry))) (now (later .entry))) ⌝ }
+{
     let sum = account(book, by, visit, left, condition, remedy, later);
     by.close(book.parts(), sum)
 }

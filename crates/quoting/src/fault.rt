@@ -1,10 +1,11 @@
 // What is wrong with an input, from any layer.
 ghost use mathlib.Core.Path.{_≡_};
+ghost use Rattle.quoting.specs.Faults.{fault-number, fault-places};
 ghost use Rattle.quoting.specs.declared.fault.Fault.the-variants.{Question, File, Making, Plan};
 use bookfile::faults::FileFault;
-use bookfile::faults::LineFault;
 use books::refusal::MakingRefusal;
 use checks::refusal::PlanRefusal;
+use fields::faults::LineFault;
 
 #[derive(Clone, Copy)]
 pub enum Fault {
@@ -50,7 +51,9 @@ pub impl From<PlanRefusal> for Fault as FaultFromPlan {
 }
 
 impl Fault {
-    pub fn number(&self) -> u32 {
+    pub fn number(&self) -> u32
+        ensures { λ r. ⌜ r ≡ fault-number (now (self .entry)) ⌝ }
+    {
         match self {
             Fault::Long => 25,
             Fault::Question(e) => e.number(),
@@ -60,7 +63,9 @@ impl Fault {
         }
     }
 
-    pub fn places(&self) -> (usize, usize, usize) {
+    pub fn places(&self) -> (usize, usize, usize)
+        ensures { λ r. ⌜ r ≡ fault-places (now (self .entry)) ⌝ }
+    {
         match self {
             Fault::Long => (0, 0, 0),
             Fault::Question(e) => e.places(),

@@ -1,15 +1,15 @@
 // The line that asks: `Q`, visits, the letter of a criterion.
 ghost use Prim.Native.Nat.{_≤_};
 ghost use Rattle.std.specs.Vec.{made};
-use bookfile::faults::FieldFault;
-use bookfile::faults::LineFault;
-use bookfile::faults::LineFaultFromField;
-use bookfile::fields::Fields;
-use bookfile::fields::Placed;
-use bookfile::fields::counted;
-use bookfile::fields::letter;
-use bookfile::lines::Line;
-use bookfile::numbers::natural;
+use fields::faults::FieldFault;
+use fields::faults::LineFault;
+use fields::faults::LineFaultFromField;
+use fields::lines::Line;
+use fields::numbers::natural;
+use fields::parts::Fields;
+use fields::parts::Placed;
+use fields::parts::counted;
+use fields::parts::letter;
 
 // The criterion that a letter names.
 #[derive(Clone, Copy)]

@@ -14,7 +14,6 @@ use super::question::By;
 use super::question::asked_in;
 use super::tables::Quote;
 use super::tables::Tables;
-use bookfile::lines::cut_line;
 use bookfile::read::read;
 use books::list::ListBook;
 use books::list::ListBookBook;
@@ -23,6 +22,7 @@ use criteria::floor::Floor;
 use criteria::floor::FloorCriterion;
 use criteria::mean::Mean;
 use criteria::mean::MeanCriterion;
+use fields::lines::cut_line;
 use model::Book;
 use planning::plan::plan;
 

@@ -1,18 +1,42 @@
-use mathlib.Core.Path.{_≡_, sym, ap, subst, _∙_}
-use Prim.Native.Nat.{_+_, _*_, _<_, _≤_}
+use mathlib.Core.Path.{_≡_, refl, sym, ap, _∙_}
+use Prim.Native.Nat.{ℕ, _+_, _*_, _-_}
 use native.Mathlib.Omega.{arith}
-use lib.ListN.{length, set}
-use Rattle.planning.proofs.Tables.{next-row, next-rows}
+use lib.ListN.{getD, take, drop}
+use Rattle.std.proofs.shelf.Lists.{set-getD}
+use Rattle.model.specs.Visits.{visit-after}
+use Rattle.criteria.specs.Policies.{remedied}
+use Rattle.planning.specs.Tables.{at, Valued}
+use Rattle.planning.proofs.Tables.{next-rows, filling-more}
 use Rattle.planning.proofs.rows.judge_row.Needs as need
 
-pub part-remedied-end : need.part-remedied-end
-part-remedied-end g c =
+pub part-value-under-end : need.part-value-under-end
+part-value-under-end g c =
     let e = ap (λ x. c .args .row * x) (c .conditions-conditions .ensures) in
     let two = next-rows (c .args .row) (g .B·Book .model (c .args .book .now) .conditions) in
-    omega (arith, c .loop-condition .inv)
+    omega (arith, c .loop-condition .inv .long)
 
 pub index-values-start : need.index-values-start
 index-values-start g c =
     let e = ap (λ x. c .args .row * x) (c .conditions-conditions .ensures) in
     let two = next-rows (c .args .row) (g .B·Book .model (c .args .book .now) .conditions) in
-    omega (arith, c .loop-condition .inv)
+    omega (arith, c .loop-condition .inv .long)
+
+pub loop-condition-again : need.loop-condition-again
+loop-condition-again g c =
+    let o = g .C·Criterion .ops (c .args .by .now) in
+    let m = g .B·Book .model (c .args .book .now) in
+    let rs = c .args .remedies .now in
+    let n = c .args .row in
+    let c′ = c .conditions-conditions .result in
+    let s = c .loop-condition .condition in
+    let vs = c .loop-condition .values in
+    let r = getD rs (n * c′ + s) 0 in
+    let later = at o (take ((n * c′ + c′ + c′) - (n * c′ + c′)) (drop (n * c′ + c′) vs)) in
+    let here : c .visit-of-visit .result ≡ visit-after n = omega (arith, c .visit-of-visit .ensures, c .pre .short) in
+    filling-more o m (Valued o m) n (c .args .left) (c .args .values .now) rs s vs _ rs rs c′ r (c .value-under-value .result) (c .conditions-conditions .ensures) (c .pre .room) (c .pre .place) (c .loop-condition-test .taken)
+    refl (sym (set-getD rs (n * c′ + s) 0))
+    (c .value-under-value .ensures ∙ ap (λ (k : ℕ). remedied o m k (c .args .left) s (c .from-remedy .result) later) here ∙ ap (λ (k : ℕ). remedied o m (visit-after n) (c .args .left) s k later) (c .from-remedy .ensures))
+    (c .loop-condition .inv)
+
+pub keeps-values : need.keeps-values
+keeps-values g c = c .loop-condition .inv .long

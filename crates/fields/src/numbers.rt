@@ -5,8 +5,8 @@ ghost use Rattle.std.specs.Vec.{made};
 ghost use lib.IntN.{pos, negsuc};
 ghost use lib.Signed.{_≤ℤ_};
 use super::faults::FieldFault;
-use super::fields::Field;
-use super::fields::Placed;
+use super::parts::Field;
+use super::parts::Placed;
 
 // The largest amount or worth that a file may have, either way.
 const MOST: u32 = 1_000_000;

@@ -1,0 +1,5 @@
+// Lines of tab-separated fields: a letter first, then numbers.
+pub mod faults;
+pub mod lines;
+pub mod numbers;
+pub mod parts;
