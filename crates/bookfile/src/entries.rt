@@ -8,11 +8,14 @@ use fields::faults::FieldFault;
 use fields::faults::LineFault;
 use fields::faults::LineFaultFromField;
 use fields::lines::Line;
-use fields::numbers::money;
 use fields::numbers::natural;
+use fields::numbers::signed_number;
 use fields::parts::Fields;
 use fields::parts::counted;
 use fields::parts::letter;
+
+// The largest amount or worth of a file, either way.
+const MOST: u32 = 1_000_000;
 
 // The sizes of a book.
 #[derive(Clone, Copy)]
@@ -71,7 +74,7 @@ fn record_of(sizes: Sizes, fields: Fields<'_>) -> Result<Record, FieldFault>
     let (share, fields) = fields.cut();
     let share = natural(share, 1, sizes.parts)?;
     let (amount, _) = fields.cut();
-    let amount = money(amount)?;
+    let amount = signed_number(amount, MOST)?;
     Ok(Record {
         condition,
         remedy,
@@ -89,7 +92,7 @@ fn worth_of(sizes: Sizes, fields: Fields<'_>) -> Result<(usize, i64), FieldFault
     let (condition, fields) = fields.cut();
     let condition = natural(condition, 0, sizes.conditions as u32 - 1)? as usize;
     let (worth, _) = fields.cut();
-    let worth = money(worth)?;
+    let worth = signed_number(worth, MOST)?;
     Ok((condition, worth))
 }
 

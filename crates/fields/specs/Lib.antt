@@ -1,1 +1,5 @@
 pub mod Faults
+pub mod Numerals
+pub mod Lines
+pub mod Kinds
+pub mod Checking

@@ -2,14 +2,10 @@
 ghost use mathlib.Core.Path.{_≡_};
 ghost use Prim.Native.Nat.{_≤_};
 ghost use Rattle.std.specs.Vec.{made};
-ghost use lib.IntN.{pos, negsuc};
-ghost use lib.Signed.{_≤ℤ_};
+ghost use lib.IntN.{natAbs};
 use super::faults::FieldFault;
 use super::parts::Field;
 use super::parts::Placed;
-
-// The largest amount or worth that a file may have, either way.
-const MOST: u32 = 1_000_000;
 
 // The number that digits without a leading zero write, held at the greatest.
 fn decimal(part: &[u8]) -> Option<u32> {
@@ -46,9 +42,9 @@ pub fn natural(field: Placed<'_>, low: u32, high: u32) -> Result<u32, FieldFault
     }
 }
 
-// An amount or a worth: a minus stands before one below 0.
-pub fn money(field: Placed<'_>) -> Result<i64, FieldFault>
-    ensures { λ r. ⌜ made r (λ z. (negsuc 999999 ≤ℤ z) × (z ≤ℤ pos 1000000)) ⌝ }
+// A number of at most `most` either way: a minus stands before one below 0.
+pub fn signed_number(field: Placed<'_>, most: u32) -> Result<i64, FieldFault>
+    ensures { λ r. ⌜ made r (λ z. natAbs z ≤ most) ⌝ }
 {
     let line = field.line;
     let place = field.place;
@@ -61,7 +57,7 @@ pub fn money(field: Placed<'_>) -> Result<i64, FieldFault>
     };
     match size {
         Some(0) if minus => Err(FieldFault::Malformed { line, field: place }),
-        Some(n) if n <= MOST => Ok(if minus { -i64::from(n) } else { i64::from(n) }),
+        Some(n) if n <= most => Ok(if minus { -i64::from(n) } else { i64::from(n) }),
         Some(_) => Err(FieldFault::Range { line, field: place }),
         None => Err(FieldFault::Malformed { line, field: place }),
     }
