@@ -5,6 +5,7 @@ use quoting::tables::Tables;
 use quoting::text::text;
 use std::error::AnyError;
 use std::io::Read;
+use std::io::Write;
 
 fn run(rt: &LibcRuntime) -> Result<(), AnyError> {
     let heap = rt.alloc();
@@ -14,7 +15,7 @@ fn run(rt: &LibcRuntime) -> Result<(), AnyError> {
     let mut tables = Tables::new(heap)?;
     let answer = quote(input.as_slice(), &mut tables);
     let printed = text(heap, answer, &tables)?;
-    rt.print(printed.as_str())?;
+    rt.stdout().write_all(printed.as_slice())?;
     Ok(())
 }
 

@@ -12,7 +12,7 @@ fn agrees(rt: &LibcRuntime, tables: &mut Tables, name: &str) -> Result<bool, Any
     let expected = fs::read(rt, format!(heap, "{name}.out")?.as_str())?;
     let answer = quote(input.as_slice(), tables);
     let printed = text(heap, answer, tables)?;
-    Ok(printed.as_bytes() == expected.as_slice())
+    Ok(printed.as_slice() == expected.as_slice())
 }
 
 fn run(rt: &LibcRuntime) -> Result<(), AnyError> {
