@@ -1,20 +1,20 @@
 -- A table book and the list book of its positive shares mean the same.
-use mathlib.Core.Path.{_≡_, refl, sym, ap, subst, _∙_, fun-ext}
+use mathlib.Core.Path.{_≡_, refl, sym, ap, _∙_, fun-ext}
 use mathlib.Core.Logic.{⊎-elim}
 use mathlib.Core.Bool.{Bool, true, false, cond, _&&_, _||_}
 use mathlib.Core.List.{List, [], _∷_, _++_}
-use Prim.Native.Nat.{ℕ, zero, suc, _+_, _*_, _≤_, _<_}
+use Prim.Native.Nat.{ℕ, zero, suc, _+_, _≤_, _<_}
 use native.Mathlib.Omega.{arith}
 use lib.Arith.{digits-lt}
-use lib.Dec.{ltb, eqb}
+use lib.Dec.{ltb}
 use lib.IntN.{ℤ, pos}
-use lib.ListN.{length, getD}
-use Rattle.std.proofs.shelf.Tests.{cond-true, cond-false, and-parts, and-left, and-right, ne-eqb, eq-eqb, and-from, ltb-true, cases-lt}
+use lib.ListN.{getD}
+use Rattle.std.proofs.shelf.Tests.{cond-true, cond-false, and-parts, ltb-true, cases-lt}
 use Rattle.books.specs.declared.record.Record.{Record}
 use Rattle.books.specs.Alike.{inside, some-above, alike}
 use Rattle.books.specs.Entries.{no-record}
-use Rattle.books.specs.Listed.{about, listed, list-model}
-use Rattle.books.specs.Tables.{spot, table-model}
+use Rattle.books.specs.Listed.{about, listed}
+use Rattle.books.specs.Tables.{spot}
 use Rattle.books.proofs.Lookups.{about-not, about-from}
 use Rattle.books.specs.Kinds.{in-turn, positive, positive-records, Kinds-agree}
 

@@ -1,3 +1,6 @@
 pub mod Lookups
 pub mod Orders
 pub mod Agreeing
+pub mod Places
+pub mod Positives
+pub mod Once

@@ -1,16 +1,16 @@
 -- What a look-up in a list of records finds.
-use mathlib.Core.Path.{_≡_, refl, sym, ap, subst, _∙_}
+use mathlib.Core.Path.{_≡_, refl, subst, _∙_}
 use mathlib.Core.Logic.{⊎-elim}
-use mathlib.Core.Bool.{Bool, true, false, cond}
+use mathlib.Core.Bool.{true, false}
 use mathlib.Core.List.{List, [], _∷_}
-use Prim.Native.Nat.{ℕ, zero, suc, _+_, _*_, _≤_, _<_}
+use Prim.Native.Nat.{ℕ, zero, suc, _+_, _≤_, _<_}
 use native.Mathlib.Omega.{arith}
 use lib.Dec.{ltb}
 use lib.ListN.{length, getD}
 use Rattle.std.proofs.shelf.Tests.{cond-true, cond-false, cases-bool, and-parts, and-from, eqb-true, eq-eqb, cases-lt, or-left, or-right, or-from, lt-ltb, le-ltb}
 use Rattle.books.specs.declared.record.Record.{Record}
 use Rattle.books.specs.Alike.{some-above}
-use Rattle.books.specs.Entries.{no-record, All-placed, All-valued, place, key, Keys-rise}
+use Rattle.books.specs.Entries.{no-record, All-placed, place, key, Keys-rise}
 use Rattle.books.specs.Listed.{about, listed}
 
 pub listed-none : (es : List Record) (s x j : ℕ) → ((i : ℕ) → i < length es → about (getD es i no-record) s x j ≡ false) → listed es s x j ≡ no-record
@@ -61,11 +61,6 @@ module _ (es : List Record) (m w : ℕ) (up : Keys-rise es) (below : (i : ℕ) �
       (λ (a : i ≤ m). let same : i ≡ m = omega arith in let P : ℕ → Type 0 = λ k. (getD es k no-record .condition ≡ s) × (getD es k no-record .remedy ≡ x) in away (omega arith) (subst P same (p .0, p .1)))
       (cases-lt m i))
       (cases-lt i m)))
-
--- keys that rise: what is below w at m is below it up to m
-pub low-more : (es : List Record) (m w : ℕ) → Keys-rise es → m < length es → key (getD es m no-record) < w → (i : ℕ) → i < m + 1 → key (getD es i no-record) < w
-low-more es m w up l lt i h =
-    ⊎-elim (λ b. let u = up i m b l in omega arith) (λ b. let e : m ≡ i = omega arith in let P : ℕ → Type 0 = λ k. key (getD es k no-record) < w in subst P e lt) (cases-lt i m)
 
 pub above-at : (f : ℕ → ℕ) (n k : ℕ) → k < n → 0 < f k → some-above f n ≡ true
 above-at f zero k l e = absurd (omega arith)

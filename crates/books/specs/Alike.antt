@@ -1,5 +1,5 @@
 -- Books of which every visit is alike.
-use mathlib.Core.Bool.{Bool, true, false, cond, _&&_, _||_}
+use mathlib.Core.Bool.{Bool, false, cond, _&&_, _||_}
 use Prim.Native.Nat.{ℕ, zero, suc, _≤_}
 use lib.Dec.{ltb, leb}
 use lib.IntN.{ℤ, pos}

@@ -4,7 +4,9 @@ use mathlib.Core.List.{List, [], _∷_, _++_}
 use Prim.Native.Nat.{ℕ, zero, suc, _*_, _<_}
 use lib.IntN.{ℤ, pos}
 use lib.ListN.{getD}
+use Rattle.std.specs.declared.result.Result.the-variants.{Ok}
 use Rattle.books.specs.declared.record.Record.{Record}
+use Rattle.books.specs.Making.{List-checked, Table-checked}
 use Rattle.books.specs.Listed.{list-model}
 use Rattle.books.specs.Tables.{spot, table-model}
 
@@ -25,3 +27,7 @@ positive-records c r shares amounts = in-turn c (λ s. in-turn r (λ x. in-turn 
 -- where the amounts of share 0 are 0, the list of the positive shares means what the tables mean
 abbrev pub Kinds-agree : Type 0
 Kinds-agree = (c r parts : ℕ) (shares : List ℕ) (amounts worths : List ℤ) → ((i : ℕ) → i < c * r * c → getD shares i 0 ≡ 0 → getD amounts i (pos 0) ≡ pos 0) → list-model c r parts (positive-records c r shares amounts) worths ≡ table-model c r parts shares amounts worths
+
+-- where a book can be made of the tables, one can be made of that list
+abbrev pub Positives-make-a-list : Type 0
+Positives-make-a-list = (c r parts : ℕ) (shares : List ℕ) (amounts worths : List ℤ) → Table-checked c r parts shares amounts worths (Ok tt) → List-checked c r parts (positive-records c r shares amounts) worths (Ok tt)

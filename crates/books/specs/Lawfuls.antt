@@ -2,17 +2,17 @@
 use mathlib.Core.Path.{_≡_, refl}
 use mathlib.Core.Bool.{Bool, true, false, cond, _&&_}
 use mathlib.Core.List.{List, [], _∷_}
-use Prim.Native.Nat.{ℕ, zero, suc, _+_, _*_, _≤_, _<_}
+use Prim.Native.Nat.{ℕ, suc, _*_, _≤_, _<_}
 use native.Mathlib.Omega.{arith}
 use lib.Arith.{digits-lt}
 use lib.Dec.{T, ltb, leb, leb→le, ltb→lt}
 use lib.IntN.{ℤ, pos}
-use lib.ListN.{length, getD}
+use lib.ListN.{length}
 use Rattle.std.proofs.shelf.Signed.{ints}
-use Rattle.model.specs.Model.{Model, Offers, offers, Money, Inside, Lawful}
+use Rattle.model.specs.Model.{Offers, offers, Money, Inside, Lawful}
 use Rattle.books.specs.declared.record.Record.{Record}
 use Rattle.books.specs.Alike.{Sizes, inside, some-above, alike}
-use Rattle.books.specs.Entries.{Small-money, All-small, Shares-fit, All-valued, no-record}
+use Rattle.books.specs.Entries.{Small-money, All-small, Shares-fit, All-valued}
 use Rattle.books.specs.Listed.{about, listed, list-model}
 use Rattle.books.specs.Tables.{spot, table-model}
 

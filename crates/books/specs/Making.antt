@@ -58,3 +58,10 @@ List-checked c r parts es worths = Checked (List-shaped c r parts worths) (In-ta
 abbrev pub First-failing : (ℕ → Type 0) → ℕ → Option ℕ → Type 0
 First-failing P n None = (i : ℕ) → i < n → P i
 First-failing P n (Some i) = (i < n) × (P i → ⊥) × ((k : ℕ) → k < i → P k)
+
+-- the answer to tables, and to a list, is one
+abbrev pub Tables-answered-once : Type 0
+Tables-answered-once = (c r parts : ℕ) (shares : List ℕ) (amounts worths : List ℤ) (a b : Result (Unit {0}) MakingRefusal) → Table-checked c r parts shares amounts worths a → Table-checked c r parts shares amounts worths b → a ≡ b
+
+abbrev pub Lists-answered-once : Type 0
+Lists-answered-once = (c r parts : ℕ) (es : List Record) (worths : List ℤ) (a b : Result (Unit {0}) MakingRefusal) → List-checked c r parts es worths a → List-checked c r parts es worths b → a ≡ b

@@ -5,3 +5,5 @@ pub mod list;
 pub mod record;
 pub mod refusal;
 pub mod table;
+#[cfg(test)]
+mod tests;

@@ -1,10 +1,9 @@
 // The limits that both kinds of book share.
 ghost use mathlib.Core.Path.{_≡_};
-ghost use mathlib.Core.Bool.{true};
 ghost use lib.IntN.{pos};
 ghost use lib.ListN.{length, getD};
 ghost use Rattle.std.specs.Orderings.{Decides};
-ghost use Rattle.books.specs.Alike.{Sizes, inside as within-sizes};
+ghost use Rattle.books.specs.Alike.{Sizes, inside};
 ghost use Rattle.books.specs.Entries.{Small-money};
 ghost use Rattle.books.specs.Making.{First-failing};
 
@@ -40,14 +39,14 @@ pub(crate) fn first_large(moneys: &[i64]) -> Option<usize>
 }
 
 // Whether a book of these sizes has the visit, the condition and the remedy.
-pub(crate) fn inside(
+pub(crate) fn is_inside(
     conditions: usize,
     remedies: usize,
     visit: usize,
     condition: usize,
     remedy: usize,
 ) -> bool
-    ensures { λ r. ⌜ r ≡ within-sizes conditions remedies visit condition remedy ⌝ }
+    ensures { λ r. ⌜ r ≡ inside conditions remedies visit condition remedy ⌝ }
 {
     1 <= visit && visit <= 48 && condition < conditions && remedy < remedies
 }

@@ -1,5 +1,5 @@
 // One listed outcome: under a remedy in a condition, a next condition with its share and amount.
-#[derive(Clone, Copy, Debug, PartialEq, Eq)]
+#[derive(Clone, Copy)]
 pub struct Record {
     pub condition: usize,
     pub remedy: usize,

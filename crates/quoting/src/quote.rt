@@ -1,9 +1,8 @@
 // From the bytes of an input to its plan.
-ghost use mathlib.Core.Path.{_≡_};
-ghost use Prim.Native.Nat.{_<_, _≤_};
+ghost use Prim.Native.Nat.{_≤_};
 ghost use lib.ListN.{length};
-ghost use Rattle.quoting.specs.declared.fault.Fault.the-variants.{Long};
-ghost use Rattle.std.specs.declared.result.Result.the-variants.{Ok, Err};
+ghost use Rattle.std.specs.Results.{Cases};
+ghost use Rattle.quoting.specs.Faults.{Long-exactly};
 use super::fault::Fault;
 use super::fault::FaultFromFile;
 use super::fault::FaultFromMaking;
@@ -44,7 +43,7 @@ fn planned<B: Book>(
 
 // Reads the input, plans in the tables, and answers what was planned or the first fault of any layer.
 pub fn quote(bytes: &[u8], tables: &mut Tables) -> Result<Quote, Fault>
-    ensures long { λ r. ⌜ (32768 < length (now (bytes .entry)) → r ≡ Err Long) ⌝ }
+    ensures { λ r. ⌜ Cases r (λ _. length (now (bytes .entry)) ≤ 32768) (λ e. Long-exactly e (length (now (bytes .entry)))) ⌝ }
 {
     if bytes.len() > LONGEST {
         return Err(Fault::Long);

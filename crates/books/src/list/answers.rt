@@ -9,7 +9,7 @@ ghost use Rattle.books.specs.Listed.{listed};
 ghost use Rattle.books.specs.Lawfuls.{list-lawful};
 ghost use Rattle.books.specs.Means.{list-means};
 use super::ListBook;
-use crate::limits::inside;
+use crate::limits::is_inside;
 use crate::record::Record;
 use model::Book;
 
@@ -115,14 +115,14 @@ pub impl<'a> Book for ListBook<'a> as ListBookBook {
     }
 
     fn offered(&self, visit: usize, condition: usize, remedy: usize) -> bool {
-        if !inside(self.conditions, self.remedies, visit, condition, remedy) {
+        if !is_inside(self.conditions, self.remedies, visit, condition, remedy) {
             return false;
         }
         self.lists(condition, remedy)
     }
 
     fn share(&self, visit: usize, condition: usize, remedy: usize, next: usize) -> u32 {
-        if inside(self.conditions, self.remedies, visit, condition, remedy)
+        if is_inside(self.conditions, self.remedies, visit, condition, remedy)
             && next < self.conditions
         {
             look_up(self.records, condition, remedy, next).share
@@ -132,7 +132,7 @@ pub impl<'a> Book for ListBook<'a> as ListBookBook {
     }
 
     fn amount(&self, visit: usize, condition: usize, remedy: usize, next: usize) -> i64 {
-        if inside(self.conditions, self.remedies, visit, condition, remedy)
+        if is_inside(self.conditions, self.remedies, visit, condition, remedy)
             && next < self.conditions
         {
             look_up(self.records, condition, remedy, next).amount

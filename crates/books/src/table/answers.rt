@@ -8,7 +8,7 @@ ghost use Rattle.books.specs.Lawfuls.{table-lawful};
 ghost use Rattle.books.specs.Means.{table-means};
 ghost use Rattle.books.specs.Tables.{spot};
 use super::TableBook;
-use crate::limits::inside;
+use crate::limits::is_inside;
 use model::Book;
 
 impl<'a> TableBook<'a> {
@@ -53,14 +53,14 @@ pub impl<'a> Book for TableBook<'a> as TableBookBook {
     }
 
     fn offered(&self, visit: usize, condition: usize, remedy: usize) -> bool {
-        if !inside(self.conditions, self.remedies, visit, condition, remedy) {
+        if !is_inside(self.conditions, self.remedies, visit, condition, remedy) {
             return false;
         }
         self.some_share(condition, remedy)
     }
 
     fn share(&self, visit: usize, condition: usize, remedy: usize, next: usize) -> u32 {
-        if inside(self.conditions, self.remedies, visit, condition, remedy)
+        if is_inside(self.conditions, self.remedies, visit, condition, remedy)
             && next < self.conditions
         {
             self.shares[self.spot_of(condition, remedy, next)]
@@ -70,7 +70,7 @@ pub impl<'a> Book for TableBook<'a> as TableBookBook {
     }
 
     fn amount(&self, visit: usize, condition: usize, remedy: usize, next: usize) -> i64 {
-        if inside(self.conditions, self.remedies, visit, condition, remedy)
+        if is_inside(self.conditions, self.remedies, visit, condition, remedy)
             && next < self.conditions
         {
             self.amounts[self.spot_of(condition, remedy, next)]

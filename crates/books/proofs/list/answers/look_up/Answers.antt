@@ -1,8 +1,7 @@
-use mathlib.Core.Path.{_≡_, refl, sym}
-use Prim.Native.Nat.{ℕ, _<_}
+use mathlib.Core.Path.{sym}
+use Prim.Native.Nat.{_<_}
 use native.Mathlib.Omega.{arith}
-use lib.ListN.{length, getD}
-use Rattle.books.specs.Entries.{no-record}
+use lib.ListN.{length}
 use Rattle.books.proofs.Lookups.{listed-hit, listed-miss}
 use Rattle.books.proofs.list.answers.look_up.Needs as need
 
