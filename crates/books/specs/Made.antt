@@ -1,4 +1,4 @@
--- What making a book answers: the book made, or why none is and the book zs it stood.
+-- What making a book answers: the book made, or why none is and the book as it stood.
 use mathlib.Core.Path.{_≡_}
 use mathlib.Core.List.{List}
 use Prim.Native.Nat.{ℕ}

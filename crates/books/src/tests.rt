@@ -34,33 +34,25 @@ fn table_told<'x>(shares: &'x [u32], amounts: &'x [i64], worths: &'x [i64]) -> (
     told(book.remake(2, 2, 10, shares, amounts, worths))
 }
 
-fn outcome(condition: usize, remedy: usize, next: usize, share: u32, amount: i64) -> Record {
-    Record {
-        condition,
-        remedy,
-        next,
-        share,
-        amount,
-    }
-}
+// Conditions, remedies, parts, how many worths are lent, and the number told.
+const SIZES: [(usize, usize, u32, usize, u32); 11] = [
+    (1, 1, 1, 1, 0),
+    (32, 8, 1000, 32, 0),
+    (0, 1, 1, 0, 12),
+    (33, 8, 1000, 33, 12),
+    (32, 0, 1000, 32, 12),
+    (32, 9, 1000, 32, 12),
+    (32, 8, 0, 32, 12),
+    (32, 8, 1001, 32, 12),
+    (32, 8, 1000, 31, 12),
+    (31, 8, 1000, 32, 12),
+    (usize::MAX, usize::MAX, u32::MAX, 33, 12),
+];
 
 #[test]
 fn list_sizes() -> Result<(), Fail> {
     let worths = [0; 33];
-    let cases: [(usize, usize, u32, usize, u32); 11] = [
-        (1, 1, 1, 1, 0),
-        (32, 8, 1000, 32, 0),
-        (0, 1, 1, 0, 12),
-        (33, 8, 1000, 33, 12),
-        (32, 0, 1000, 32, 12),
-        (32, 9, 1000, 32, 12),
-        (32, 8, 0, 32, 12),
-        (32, 8, 1001, 32, 12),
-        (32, 8, 1000, 31, 12),
-        (31, 8, 1000, 32, 12),
-        (usize::MAX, usize::MAX, u32::MAX, 33, 12),
-    ];
-    for (conditions, remedies, parts, length, number) in cases {
+    for (conditions, remedies, parts, length, number) in SIZES {
         check(length <= 33)?;
         check_eq(
             list_told(conditions, remedies, parts, &[], &worths[..length]),
@@ -70,32 +62,49 @@ fn list_sizes() -> Result<(), Fail> {
     Ok(())
 }
 
+// A second record and a second worth, and the table and the index told: condition, remedy, next, share,
+// amount, worth, table, index.
+const ENTRIES: [(usize, usize, usize, u32, i64, i64, usize, usize); 19] = [
+    (0, 1, 1, 10, 1_000_000, 1_000_000, 0, 0),
+    (1, 0, 0, 1, -1_000_000, -1_000_000, 0, 0),
+    (0, 1, 1, 10, 1_000_001, 0, 1, 1),
+    (0, 1, 1, 10, -1_000_001, 0, 1, 1),
+    (0, 1, 1, 10, i64::MIN, 0, 1, 1),
+    (0, 1, 0, 10, 0, 0, 1, 1),
+    (0, 0, 1, 10, 0, 0, 1, 1),
+    (0, 1, 1, 0, 0, 0, 1, 1),
+    (0, 1, 1, 11, 0, 0, 1, 1),
+    (0, 1, 1, u32::MAX, 0, 0, 1, 1),
+    (2, 0, 0, 10, 0, 0, 1, 1),
+    (1, 2, 0, 10, 0, 0, 1, 1),
+    (1, 1, 2, 10, 0, 0, 1, 1),
+    (usize::MAX, 1, 1, 10, 0, 0, 1, 1),
+    (1, 1, usize::MAX, 10, 0, 0, 1, 1),
+    (0, 1, 1, 10, 0, 1_000_001, 3, 1),
+    (0, 1, 1, 10, 0, -1_000_001, 3, 1),
+    (0, 1, 1, 10, 0, i64::MIN, 3, 1),
+    (0, 1, 1, 11, 0, 1_000_001, 1, 1),
+];
+
 #[test]
 fn list_entries() -> Result<(), Fail> {
-    let cases: [(Record, i64, usize, usize); 19] = [
-        (outcome(0, 1, 1, 10, 1_000_000), 1_000_000, 0, 0),
-        (outcome(1, 0, 0, 1, -1_000_000), -1_000_000, 0, 0),
-        (outcome(0, 1, 1, 10, 1_000_001), 0, 1, 1),
-        (outcome(0, 1, 1, 10, -1_000_001), 0, 1, 1),
-        (outcome(0, 1, 1, 10, i64::MIN), 0, 1, 1),
-        (outcome(0, 1, 0, 10, 0), 0, 1, 1),
-        (outcome(0, 0, 1, 10, 0), 0, 1, 1),
-        (outcome(0, 1, 1, 0, 0), 0, 1, 1),
-        (outcome(0, 1, 1, 11, 0), 0, 1, 1),
-        (outcome(0, 1, 1, u32::MAX, 0), 0, 1, 1),
-        (outcome(2, 0, 0, 10, 0), 0, 1, 1),
-        (outcome(1, 2, 0, 10, 0), 0, 1, 1),
-        (outcome(1, 1, 2, 10, 0), 0, 1, 1),
-        (outcome(usize::MAX, 1, 1, 10, 0), 0, 1, 1),
-        (outcome(1, 1, usize::MAX, 10, 0), 0, 1, 1),
-        (outcome(0, 1, 1, 10, 0), 1_000_001, 3, 1),
-        (outcome(0, 1, 1, 10, 0), -1_000_001, 3, 1),
-        (outcome(0, 1, 1, 10, 0), i64::MIN, 3, 1),
-        (outcome(0, 1, 1, 11, 0), 1_000_001, 1, 1),
-    ];
-    for (second, worth, table, index) in cases {
+    for (condition, remedy, next, share, amount, worth, table, index) in ENTRIES {
         let number = if table == 0 { 0 } else { 13 };
-        let records = [outcome(0, 1, 0, 10, 0), second];
+        let first = Record {
+            condition: 0,
+            remedy: 1,
+            next: 0,
+            share: 10,
+            amount: 0,
+        };
+        let second = Record {
+            condition,
+            remedy,
+            next,
+            share,
+            amount,
+        };
+        let records = [first, second];
         let worths = [0, worth];
         check_eq(
             list_told(2, 2, 10, &records, &worths),
@@ -105,25 +114,26 @@ fn list_entries() -> Result<(), Fail> {
     Ok(())
 }
 
+// How many shares, amounts and worths are lent, one of each, then number, table and index.
+const TABLES: [(usize, usize, usize, u32, i64, i64, u32, usize, usize); 13] = [
+    (8, 8, 2, 10, 1_000_000, -1_000_000, 0, 0, 0),
+    (7, 8, 2, 10, 0, 0, 12, 0, 0),
+    (9, 8, 2, 10, 0, 0, 12, 0, 0),
+    (8, 7, 2, 10, 0, 0, 12, 0, 0),
+    (8, 9, 2, 10, 0, 0, 12, 0, 0),
+    (8, 8, 1, 10, 0, 0, 12, 0, 0),
+    (8, 8, 3, 10, 0, 0, 12, 0, 0),
+    (8, 8, 2, 11, 0, 0, 13, 1, 5),
+    (8, 8, 2, 10, 1_000_001, 0, 13, 2, 6),
+    (8, 8, 2, 10, i64::MIN, 0, 13, 2, 6),
+    (8, 8, 2, 10, 0, -1_000_001, 13, 3, 1),
+    (8, 8, 2, 11, 1_000_001, 1_000_001, 13, 1, 5),
+    (8, 8, 2, 10, 1_000_001, 1_000_001, 13, 2, 6),
+];
+
 #[test]
 fn tables() -> Result<(), Fail> {
-    // shares, amounts and worths lent, one share, one amount, one worth, then number, table and index
-    let cases: [(usize, usize, usize, u32, i64, i64, u32, usize, usize); 13] = [
-        (8, 8, 2, 10, 1_000_000, -1_000_000, 0, 0, 0),
-        (7, 8, 2, 10, 0, 0, 12, 0, 0),
-        (9, 8, 2, 10, 0, 0, 12, 0, 0),
-        (8, 7, 2, 10, 0, 0, 12, 0, 0),
-        (8, 9, 2, 10, 0, 0, 12, 0, 0),
-        (8, 8, 1, 10, 0, 0, 12, 0, 0),
-        (8, 8, 3, 10, 0, 0, 12, 0, 0),
-        (8, 8, 2, 11, 0, 0, 13, 1, 5),
-        (8, 8, 2, 10, 1_000_001, 0, 13, 2, 6),
-        (8, 8, 2, 10, i64::MIN, 0, 13, 2, 6),
-        (8, 8, 2, 10, 0, -1_000_001, 13, 3, 1),
-        (8, 8, 2, 11, 1_000_001, 1_000_001, 13, 1, 5),
-        (8, 8, 2, 10, 1_000_001, 1_000_001, 13, 2, 6),
-    ];
-    for (a, b, w, share, amount, worth, number, table, index) in cases {
+    for (a, b, w, share, amount, worth, number, table, index) in TABLES {
         check(a <= 9 && b <= 9 && w <= 3)?;
         let shares = [0, 10, 0, 0, 0, share, 0, 0, 0];
         let amounts = [0, 7, 0, 0, 0, -5, amount, 0, 0];
@@ -168,9 +178,27 @@ fn answers<B: Book>(book: &B) -> Result<(), Fail> {
 #[test]
 fn list_answers() -> Result<(), Fail> {
     let records = [
-        outcome(0, 0, 1, 10, 7),
-        outcome(1, 1, 0, 4, -5),
-        outcome(1, 1, 1, 6, 0),
+        Record {
+            condition: 0,
+            remedy: 0,
+            next: 1,
+            share: 10,
+            amount: 7,
+        },
+        Record {
+            condition: 1,
+            remedy: 1,
+            next: 0,
+            share: 4,
+            amount: -5,
+        },
+        Record {
+            condition: 1,
+            remedy: 1,
+            next: 1,
+            share: 6,
+            amount: 0,
+        },
     ];
     let worths = [20, -30];
     let mut book = ListBook::blank();

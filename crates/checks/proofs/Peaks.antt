@@ -1,7 +1,7 @@
 -- The greatest size in a book is a bound that is reached, and decides the number limit.
 use mathlib.Core.Path.{_≡_, refl, sym, ap, subst, _∙_}
 use mathlib.Core.Bool.{Bool, true, false, cond}
-use mathlib.Core.Logic.{_⊎_, inl, inr, ⊎-elim}
+use mathlib.Core.Logic.{inl, inr, ⊎-elim}
 use Prim.Native.Nat.{ℕ, zero, suc, _+_, _*_, _-_, _^_, _≤_, _<_, max}
 use native.Mathlib.Omega.{arith}
 use native.Mathlib.Nat.{mul-le-mul-left, le-trans}
@@ -10,8 +10,8 @@ use lib.Dec.{T, ltb}
 use lib.IntN.{natAbs}
 use Rattle.std.specs.Orderings.{When}
 use Rattle.std.proofs.shelf.Tests.{cases-lt, ltb-true, lt-ltb, cond-true, cond-false}
-use Rattle.model.specs.Model.{Model, Lawful, offers}
-use Rattle.model.specs.Visits.{visit-after, Place, Bounds, Within-limit, Fits}
+use Rattle.model.specs.Model.{Model, Lawful}
+use Rattle.model.specs.Visits.{visit-after, Bounds, Within-limit, Fits}
 use Rattle.checks.specs.Limit.{Amount-of-size, Reached, Peak, most, greatest-worth, greatest-under, greatest-in, greatest-at, greatest, Has-a-peak, Fits-by-the-peak}
 
 peak-least : (m : Model) (H P Q : ℕ) → Peak m H P → Bounds m H Q → P ≤ Q

@@ -49,6 +49,7 @@ Numbers-declined m H (Uneven n s r) = First-uneven m H n s r
 Numbers-declined m H Fine = Even m H × (Fits m H → ⊥)
 Numbers-declined m H (Rule n s r) = ⊥
 
+-- what the check of shares and the number limit answers
 abbrev pub Numbers-checked : Model → ℕ → Result (Unit {0}) PlanRefusal → Type 0
 Numbers-checked m H (Ok x) = Even m H × Fits m H
 Numbers-checked m H (Err e) = Numbers-declined m H e

@@ -2,7 +2,7 @@
 use mathlib.Core.Path.{_≡_}
 use mathlib.Core.Bool.{cond}
 use mathlib.Core.Logic.{_⊎_}
-use Prim.Native.Nat.{ℕ, zero, suc, _≤_, _<_, max}
+use Prim.Native.Nat.{ℕ, zero, suc, _<_, max}
 use lib.Dec.{T, ltb}
 use lib.IntN.{natAbs}
 use Rattle.model.specs.Model.{Model, Lawful, offers}

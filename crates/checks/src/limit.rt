@@ -1,3 +1,4 @@
+ghost use mathlib.Core.Bool.{cond};
 ghost use mathlib.Core.Path.{_≡_};
 ghost use Rattle.std.specs.Orderings.{When};
 ghost use Rattle.model.specs.Visits.{Within-limit, Fits};
@@ -29,15 +30,24 @@ fn greatest_under<B: Book>(book: &B, visit: usize, condition: usize, remedy: usi
     top
 }
 
+// The same, or 0 if the remedy is not offered there.
+fn greatest_if_offered<B: Book>(book: &B, visit: usize, condition: usize, remedy: usize) -> u64
+    ensures { λ r. ⌜ r ≡ cond (model (now (book .entry)) .offered visit condition remedy) (greatest-under (model (now (book .entry))) visit condition remedy) 0 ⌝ }
+{
+    if book.offered(visit, condition, remedy) {
+        greatest_under(book, visit, condition, remedy)
+    } else {
+        0
+    }
+}
+
 // The largest under a remedy that is offered there.
 fn greatest_in<B: Book>(book: &B, visit: usize, condition: usize) -> u64
     ensures { λ r. ⌜ r ≡ greatest-in (model (now (book .entry))) visit condition ⌝ }
 {
     let mut top: u64 = 0;
     for remedy in 0..book.remedies() {
-        if book.offered(visit, condition, remedy) {
-            top = top.max(greatest_under(book, visit, condition, remedy));
-        }
+        top = top.max(greatest_if_offered(book, visit, condition, remedy));
     }
     top
 }

@@ -1,8 +1,9 @@
 -- The best remedy so far, one remedy more.
-use mathlib.Core.Path.{_≡_, refl, sym, ap, subst, _∙_}
+use mathlib.Core.Path.{_≡_, refl, sym, subst}
 use mathlib.Core.Bool.{Bool, true, false, cond}
-use mathlib.Core.Logic.{_⊎_, inl, inr, ⊎-elim}
-use Prim.Native.Nat.{ℕ, suc, _+_, _≤_, _<_}
+use mathlib.Core.List.{List}
+use mathlib.Core.Logic.{⊎-elim}
+use Prim.Native.Nat.{ℕ, _+_}
 use native.Mathlib.Omega.{arith}
 use lib.Dec.{T}
 use borrow.Author.Count.{below-more}
@@ -12,6 +13,7 @@ use Rattle.std.specs.declared.option.Option.the-variants.{Some, None}
 use Rattle.model.specs.Model.{Model}
 use Rattle.criteria.specs.Criteria.{Ops, Laws}
 use Rattle.criteria.specs.Policies.{remedied}
+use Rattle.planning.specs.Tables.{at}
 use Rattle.planning.specs.Choosing.{Best, None-below, kept-of}
 
 pub from-true : {b : Bool} → b ≡ true → T b
@@ -20,8 +22,8 @@ from-true e = subst T (sym e) tt
 pub from-false : {b : Bool} → b ≡ false → T b → ⊥
 from-false e t = subst T e t
 
-pub best-at : {V A : Type 0} {o : Ops V A} {m : Model} {n n′ left s : ℕ} {later : ℕ → V} {count r : ℕ} {v : V} → n ≡ n′ → Best o m n left s later count r v → Best o m n′ left s later count r v
-best-at {o = o} {m = m} {left = left} {s = s} {later = later} {count = count} {r = r} {v = v} e b = subst (λ x. Best o m x left s later count r v) e b
+pub best-at : {V A : Type 0} {o : Ops V A} {m : Model} {n n′ left s : ℕ} {later later′ : List V} {count r : ℕ} {v : V} → n ≡ n′ → later ≡ later′ → Best o m n left s (at o later) count r v → Best o m n′ left s (at o later′) count r v
+best-at {o = o} {m = m} {n = n} {left = left} {s = s} {later′ = later′} {count = count} {r = r} {v = v} e f b = subst (λ x. Best o m x left s (at o later′) count r v) e (subst (λ x. Best o m n left s (at o x) count r v) f b)
 
 module _ {V A : Type 0} (o : Ops V A) (m : Model) (visit left s : ℕ) (later : ℕ → V) where
   abbrev pub State : ℕ → Option (ℕ × V) → Type 0

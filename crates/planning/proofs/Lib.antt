@@ -1,4 +1,9 @@
 pub mod Steps
 pub mod Bests
 pub mod Tables
-pub mod Optimal
+pub mod Plans
+pub mod Agreeing
+pub mod Judging
+pub mod Stuck
+pub mod Refused
+pub mod Determined

@@ -1,8 +1,6 @@
 -- One next condition more.
-use mathlib.Core.Path.{_≡_, refl, sym, ap, subst, _∙_}
-use mathlib.Core.Bool.{Bool, true, false, cond}
-use mathlib.Core.List.{List}
-use Prim.Native.Nat.{ℕ, suc, _+_, _≤_, _<_}
+use mathlib.Core.Path.{_≡_, sym, ap, subst, _∙_}
+use Prim.Native.Nat.{ℕ, _+_, _≤_, _<_}
 use native.Mathlib.Numerals.{add-one}
 use lib.Dec.{ltb}
 use lib.IntN.{ℤ}
@@ -10,7 +8,7 @@ use borrow.Author.Tests.{lt-ltb, le-ltb}
 use Rattle.std.proofs.shelf.Tests.{cond-true, cond-false}
 use Rattle.model.specs.Model.{Model}
 use Rattle.criteria.specs.Criteria.{Ops}
-use Rattle.criteria.specs.Policies.{entered, remedied}
+use Rattle.criteria.specs.Policies.{entered}
 
 module _ {V A : Type 0} (o : Ops V A) (m : Model) (visit left s r : ℕ) where
   pub entered-more : (later : ℕ → V) (j parts share : ℕ) (amount : ℤ) (v : V) (sum : A) →

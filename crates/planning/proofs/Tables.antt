@@ -1,7 +1,7 @@
 -- Rows of the tables, and what a write to one leaves.
 use mathlib.Core.Path.{_≡_, refl, sym, ap, subst, _∙_}
 use mathlib.Core.List.{List}
-use mathlib.Core.Logic.{_≢_, _⊎_, ⊎-elim}
+use mathlib.Core.Logic.{_≢_, ⊎-elim}
 use Prim.Native.Nat.{ℕ, _+_, _*_, _-_, _≤_, _<_}
 use native.Mathlib.Nat.{add-mul, one-mul, suc-mul, mul-le-mul-right, eq-or-lt-of-le}
 use native.Mathlib.Omega.{arith}
@@ -31,13 +31,9 @@ kept-at k i xs ys d h e =
     let far : (zs : List _) → getD (drop k zs) (i - k) d ≡ getD zs i d = λ zs. getD-drop k zs (i - k) d ∙ ap (λ x. getD zs x d) at-i in
     sym (far xs) ∙ ap (λ zs. getD zs (i - k) d) e ∙ far ys
 
--- the part of a table that is lent as the row after n, by the numbers that the code has
-part-is : {V : Type 0} (n c c′ : ℕ) (vs es : List V) → c′ ≡ c → drop ((n + 1) * c) vs ≡ drop ((n + 1) * c) es →
-    take ((n * c′ + c′ + c′) - (n * c′ + c′)) (drop (n * c′ + c′) vs) ≡ take c (drop ((n + 1) * c) es)
-part-is n c c′ vs es e kept =
-    let from : n * c′ + c′ ≡ (n + 1) * c = ap (λ x. n * x + x) e ∙ sym (next-row n c) in
-    let count : (n * c′ + c′ + c′) - (n * c′ + c′) ≡ c = omega arith in
-    ap (λ x. take x (drop (n * c′ + c′) vs)) count ∙ ap (λ x. take c (drop x vs)) from ∙ ap (take c) kept
+-- the row after n, by the number of conditions that the code has
+part-is : {V : Type 0} (n c c′ : ℕ) (vs es : List V) → c′ ≡ c → drop ((n + 1) * c) vs ≡ drop ((n + 1) * c) es → take c′ (drop ((n + 1) * c′) vs) ≡ take c (drop ((n + 1) * c) es)
+part-is n c c′ vs es e kept = ap (λ x. take x (drop ((n + 1) * x) vs)) e ∙ ap (take c) kept
 
 module _ {V A : Type 0} (o : Ops V A) (m : Model) (E : Entry V) where
   entry-moved : (n left s : ℕ) (later : List V) (r r′ : ℕ) (v v′ : V) → r′ ≡ r → v′ ≡ v → E n left s later r v → E n left s later r′ v′
@@ -70,7 +66,7 @@ module _ {V A : Type 0} (o : Ops V A) (m : Model) (E : Entry V) where
   pub filling-more : (n left : ℕ) (es : List V) (er : List ℕ) (k : ℕ) (vs vs′ : List V) (rs rs′ : List ℕ) (c′ r : ℕ) (v : V) →
       c′ ≡ m .conditions → (n + 2) * m .conditions ≤ length es → (n + 1) * m .conditions ≤ length rs → k < c′ →
       vs′ ≡ set vs (n * c′ + k) v → rs′ ≡ set rs (n * c′ + k) r →
-      E n left k (take ((n * c′ + c′ + c′) - (n * c′ + c′)) (drop (n * c′ + c′) vs)) r v →
+      E n left k (take c′ (drop ((n + 1) * c′) vs)) r v →
       Filling n left es er k vs rs → Filling n left es er (k + 1) vs′ rs′
   filling-more n left es er k vs vs′ rs rs′ c′ r v e room place below ve re entry f =
       let c = m .conditions in

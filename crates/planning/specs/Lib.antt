@@ -2,5 +2,4 @@ pub mod Choosing
 pub mod Tables
 pub mod Plans
 pub mod Judgements
-pub mod Optimal
 pub mod Agreeing

@@ -47,3 +47,20 @@ module _ {V A : Type 0} (o : Ops V A) (m : Model) where
   pub record Filled (E : Entry V) (visits from : ℕ) (vs : List V) (rs : List ℕ) : Type 0 where
     pub closed : Closed visits (m .conditions) vs
     pub rows : (n : ℕ) → from ≤ n → n < visits → Row E n (visits - n) (row-of m vs (n + 1)) (m .conditions) vs rs
+
+  -- the row n is written as asked, and what stands after it in both tables is kept
+  pub record Row-written (E : Entry V) (n left : ℕ) (vs vs′ : List V) (rs rs′ : List ℕ) : Type 0 where
+    pub filled : Row E n left (row-of m vs′ (n + 1)) (m .conditions) vs′ rs′
+    pub values : drop ((n + 1) * m .conditions) vs′ ≡ drop ((n + 1) * m .conditions) vs
+    pub remedies : drop ((n + 1) * m .conditions) rs′ ≡ drop ((n + 1) * m .conditions) rs
+
+  -- the closing values are written
+  pub record Closing-written (visits : ℕ) (vs vs′ : List V) : Type 0 where
+    pub closed : Closed visits (m .conditions) vs′
+    pub values : drop ((visits + 1) * m .conditions) vs′ ≡ drop ((visits + 1) * m .conditions) vs
+
+  -- all rows are written as asked
+  pub record Rows-written (E : Entry V) (visits : ℕ) (vs vs′ : List V) (rs rs′ : List ℕ) : Type 0 where
+    pub filled : Filled E visits 0 vs′ rs′
+    pub values : drop ((visits + 1) * m .conditions) vs′ ≡ drop ((visits + 1) * m .conditions) vs
+    pub remedies : drop (visits * m .conditions) rs′ ≡ drop (visits * m .conditions) rs

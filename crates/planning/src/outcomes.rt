@@ -1,9 +1,28 @@
 ghost use mathlib.Core.Path.{_≡_};
 ghost use lib.ListN.{length};
 ghost use Rattle.criteria.specs.Policies.{entered, remedied};
+ghost use Rattle.std.specs.Options.{Cases as BySome};
+ghost use Rattle.planning.specs.Choosing.{Possible};
 ghost use Rattle.planning.specs.Tables.{at};
 use criteria::criterion::Criterion;
 use model::Book;
+
+// The share and the amount of an outcome, unless it cannot come about.
+fn outcome<B: Book>(
+    book: &B,
+    visit: usize,
+    condition: usize,
+    remedy: usize,
+    next: usize,
+) -> Option<(u32, i64)>
+    ensures { λ r. ⌜ BySome r (model (now (book .entry)) .share visit condition remedy next ≡ 0) (λ p. Possible (model (now (book .entry))) visit condition remedy next (p .0) (p .1)) ⌝ }
+{
+    let share = book.share(visit, condition, remedy, next);
+    if share == 0 {
+        return None;
+    }
+    Some((share, book.amount(visit, condition, remedy, next)))
+}
 
 // The account of all outcomes of a remedy, with the values of the next visit's conditions.
 fn account<B: Book, C: Criterion>(
@@ -21,9 +40,8 @@ fn account<B: Book, C: Criterion>(
     let mut sum = by.blank();
     let parts = book.parts();
     for (next, value) in later.iter().enumerate() {
-        let share = book.share(visit, condition, remedy, next);
-        if share > 0 {
-            let amount = book.amount(visit, condition, remedy, next);
+        if let Some(found) = outcome(book, visit, condition, remedy, next) {
+            let (share, amount) = found;
             sum = by.enter(left, parts, share, amount, *value, sum);
         }
     }

@@ -1,8 +1,5 @@
 use mathlib.Core.Path.{_≡_}
-use mathlib.Core.Bool.{cond}
-use lib.Dec.{ltb}
-use lib.IntN.{natAbs}
-use Rattle.checks.specs.Limit.{most, greatest-under, greatest-in}
+use Rattle.checks.specs.Limit.{most, greatest-in}
 use Rattle.checks.proofs.limit.greatest_at.Given as given
 
 abbrev pub Inv-loop-condition : given.InvT-loop-condition

@@ -1,8 +1,6 @@
 use mathlib.Core.Path.{_≡_}
 use mathlib.Core.Bool.{cond}
-use lib.Dec.{ltb}
-use lib.IntN.{natAbs}
-use Rattle.checks.specs.Limit.{most, greatest-under, greatest-in}
+use Rattle.checks.specs.Limit.{most, greatest-under}
 use Rattle.checks.proofs.limit.greatest_in.Given as given
 
 abbrev pub Inv-loop-remedy : given.InvT-loop-remedy

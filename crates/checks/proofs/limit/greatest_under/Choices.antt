@@ -2,7 +2,7 @@ use mathlib.Core.Path.{_≡_}
 use mathlib.Core.Bool.{cond}
 use lib.Dec.{ltb}
 use lib.IntN.{natAbs}
-use Rattle.checks.specs.Limit.{most, greatest-under, greatest-in}
+use Rattle.checks.specs.Limit.{most}
 use Rattle.checks.proofs.limit.greatest_under.Given as given
 
 abbrev pub Inv-loop-next : given.InvT-loop-next

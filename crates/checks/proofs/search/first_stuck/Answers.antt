@@ -1,9 +1,6 @@
-use mathlib.Core.Path.{_≡_}
-use Prim.Native.Nat.{suc, _≤_}
-use native.Mathlib.Omega.{arith}
 use Rattle.model.specs.Model.{offers}
 use Rattle.model.specs.Visits.{Some-offered}
-use Rattle.checks.proofs.Places.{clear-more, clear-row}
+use Rattle.checks.proofs.Places.{clear-more}
 use Rattle.checks.proofs.search.first_stuck.Needs as need
 
 pub loop-condition-again : need.loop-condition-again

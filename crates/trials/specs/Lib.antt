@@ -1,0 +1,3 @@
+pub mod Switch
+pub mod Lawful
+pub mod Outlook
