@@ -7,12 +7,10 @@ ghost use Rattle.books.specs.Making.{Tables-answered-once, Lists-answered-once
 pub fn kinds_agree()
     ensures same { λ _. ⌜ Kinds-agree ⌝ }
     ensures made { λ _. ⌜ Positives-make-a-list ⌝ }
-{
-}
+{}
 
 // Whatever tables or records are given, only one answer to them is right.
 pub fn answered_once()
     ensures tables { λ _. ⌜ Tables-answered-once ⌝ }
     ensures lists { λ _. ⌜ Lists-answered-once ⌝ }
-{
-}
+{}

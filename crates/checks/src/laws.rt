@@ -4,5 +4,4 @@ ghost use Rattle.checks.specs.Limit.{Has-a-peak, Fits-by-the-peak};
 pub fn limit_stands()
     ensures peak { λ _. ⌜ Has-a-peak ⌝ }
     ensures fits { λ _. ⌜ Fits-by-the-peak ⌝ }
-{
-}
+{}

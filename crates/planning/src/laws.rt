@@ -8,5 +8,4 @@ pub fn plans_agree<C: Criterion>(by: &C)
     ensures stuck { λ _. ⌜ Plans-are-stuck-exactly (ops (now (by .entry))) ⌝ }
     ensures planned { λ _. ⌜ Plans-are-determined (ops (now (by .entry))) ⌝ }
     ensures judged { λ _. ⌜ Judgements-are-determined (ops (now (by .entry))) ⌝ }
-{
-}
+{}

@@ -2,6 +2,8 @@
 ghost use Prim.Native.Nat.{_≤_};
 ghost use lib.ListN.{length};
 ghost use Rattle.std.specs.Results.{Cases};
+ghost use Rattle.planning.specs.Plans.{Plan-answers};
+ghost use Rattle.quoting.specs.Asking.{criterion};
 ghost use Rattle.quoting.specs.Faults.{Long-exactly};
 use super::fault::Fault;
 use super::fault::FaultFromFile;
@@ -17,13 +19,10 @@ use bookfile::read::read;
 use books::list::ListBook;
 use books::list::ListBookBook;
 use checks::refusal::PlanRefusal;
-use criteria::floor::Floor;
-use criteria::floor::FloorCriterion;
-use criteria::mean::Mean;
-use criteria::mean::MeanCriterion;
 use fields::lines::cut_line;
 use model::Book;
-use planning::plan::plan;
+use totals::by_floor::plan_floor;
+use totals::by_mean::plan_mean;
 
 // The most bytes that an input may have.
 pub const LONGEST: usize = 32768;
@@ -34,10 +33,12 @@ fn planned<B: Book>(
     asked: Asked,
     values: &mut [i64],
     remedies: &mut [u8],
-) -> Result<usize, PlanRefusal> {
+) -> Result<usize, PlanRefusal>
+    ensures { λ r. ⌜ Plan-answers (criterion (asked .by)) (model (now (book .entry))) (asked .visits) r (now (values .entry)) (now (values .exit)) (now (remedies .entry)) (now (remedies .exit)) ⌝ }
+{
     match asked.by {
-        By::Mean => plan(book, &Mean, asked.visits, values, remedies),
-        By::Floor => plan(book, &Floor, asked.visits, values, remedies),
+        By::Mean => plan_mean(book, asked.visits, values, remedies),
+        By::Floor => plan_floor(book, asked.visits, values, remedies),
     }
 }
 
@@ -65,13 +66,12 @@ pub fn quote(bytes: &[u8], tables: &mut Tables) -> Result<Quote, Fault>
         &tables.records.as_slice()[0..count],
         &tables.worths.as_slice()[0..conditions],
     )?;
-    planned(
+    let entries = planned(
         &book,
         asked,
         tables.values.as_mut_slice(),
         tables.remedies.as_mut_slice(),
     )?;
-    let entries = asked.visits * conditions;
     Ok(Quote {
         conditions,
         entries,

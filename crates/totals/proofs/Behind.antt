@@ -37,10 +37,10 @@ module _ (m : Model) (H : ℕ) (rs : List ℕ) (lawful : Lawful m) (even : Even 
   mean-totals : (vs : List ℤ) → Fits m H → Values-of mean m H (tabled (offers m) rs) vs → Expected-totals m H rs vs
   mean-totals vs fits values =
       let own = books-offer-their-own m lawful in
-      record
-      { totals = λ h k s e w i. values h k s e w i ∙ mean-is-expected m H (tabled (offers m) rs) own (lawful .some-parts) even fits policy k h s (omega arith) w i
-      ; weights = λ h k s e w i. chances-are-whole m H (tabled (offers m) rs) own even policy k h s (omega arith) w i
-      ; unheld = no-mean-result-is-held m H (tabled (offers m) rs) own (lawful .some-parts) even fits policy
+      record {
+        totals = λ h k s e w i. values h k s e w i ∙ mean-is-expected m H (tabled (offers m) rs) own (lawful .some-parts) even fits policy k h s (omega arith) w i;
+        weights = λ h k s e w i. chances-are-whole m H (tabled (offers m) rs) own even policy k h s (omega arith) w i;
+        unheld = no-mean-result-is-held m H (tabled (offers m) rs) own (lawful .some-parts) even fits policy;
       }
 
   mean-greatest : Fits m H → Unbeaten mean m H (tabled (offers m) rs) → Greatest-expected m H rs
@@ -68,9 +68,10 @@ module _ (m : Model) (H : ℕ) (rs : List ℕ) (lawful : Lawful m) (even : Even 
 
 module _ (m : Model) (H : ℕ) (lawful : Lawful m) where
   pub mean-plan : (r : Result ℕ PlanRefusal) (vs vs′ : List ℤ) (rs rs′ : List ℕ) → Plan-answers mean m H r vs vs′ rs rs′ → made r (λ _. Expected-totals m H rs′ vs′) × made r (λ _. Greatest-expected m H rs′)
-  mean-plan (Ok n) vs vs′ rs rs′ (count, taken, planned) =
-      ( mean-totals m H rs′ lawful (taken .evenly) (planned .policy) vs′ (taken .fitting) (planned .values)
-      , mean-greatest m H rs′ lawful (taken .evenly) (planned .policy) (taken .fitting) (planned .unbeaten) )
+  mean-plan (Ok n) vs vs′ rs rs′ (count, taken, planned) = (
+    mean-totals m H rs′ lawful (taken .evenly) (planned .policy) vs′ (taken .fitting) (planned .values),
+    mean-greatest m H rs′ lawful (taken .evenly) (planned .policy) (taken .fitting) (planned .unbeaten),
+  )
   mean-plan (Err f) vs vs′ rs rs′ a = (tt, tt)
 
   pub mean-judgement : (r : Result ℕ PlanRefusal) (vs vs′ : List ℤ) (rs : List ℕ) → Judge-answers mean m H r vs vs′ rs → made r (λ _. Expected-totals m H rs vs′)
@@ -79,9 +80,10 @@ module _ (m : Model) (H : ℕ) (lawful : Lawful m) where
   mean-judgement (Err f) vs vs′ rs a = tt
 
   pub floor-plan : (r : Result ℕ PlanRefusal) (vs vs′ : List ℤ) (rs rs′ : List ℕ) → Plan-answers floor m H r vs vs′ rs rs′ → made r (λ _. Least-totals m H rs′ vs′) × made r (λ _. Greatest-least m H rs′)
-  floor-plan (Ok n) vs vs′ rs rs′ (count, taken, planned) =
-      ( floor-totals m H rs′ lawful (taken .evenly) (planned .policy) (taken .in-order .few) vs′ (planned .values)
-      , floor-greatest m H rs′ lawful (taken .evenly) (planned .policy) (taken .in-order .few) (planned .unbeaten) )
+  floor-plan (Ok n) vs vs′ rs rs′ (count, taken, planned) = (
+    floor-totals m H rs′ lawful (taken .evenly) (planned .policy) (taken .in-order .few) vs′ (planned .values),
+    floor-greatest m H rs′ lawful (taken .evenly) (planned .policy) (taken .in-order .few) (planned .unbeaten),
+  )
   floor-plan (Err f) vs vs′ rs rs′ a = (tt, tt)
 
   pub floor-judgement : (r : Result ℕ PlanRefusal) (vs vs′ : List ℤ) (rs : List ℕ) → Judge-answers floor m H r vs vs′ rs → made r (λ _. Least-totals m H rs vs′)

@@ -13,9 +13,9 @@ use planning::judge::judge;
 use planning::plan::plan;
 use std::test::*;
 
-// Two visits: each rule for both, whatever it looks at, is tried from each condition.
+// Two visits: each policy for both, whatever it looks at, is tried from each condition.
 #[test]
-fn no_rule_is_better() -> Result<(), Fail> {
+fn no_policy_is_better() -> Result<(), Fail> {
     let mut values = [Outlook::Doubtful; 7];
     let mut remedies = [9u8; 5];
     check_eq(
