@@ -1,6 +1,9 @@
 -- The mean criterion.
-use Prim.Native.Nat.{_-_, _^_}
+use mathlib.Core.Path.{_≡_}
+use mathlib.Core.List.{List}
+use Prim.Native.Nat.{ℕ, _-_, _^_, _<_}
 use lib.IntN.{ℤ, pos, _+ℤ_, _*ℤ_}
+use lib.ListN.{getD}
 use lib.Signed.{leZ, _≤ℤ_}
 use Rattle.std.specs.Numbers.{saturated}
 use Rattle.criteria.specs.Criteria.{Ops, Laws}
@@ -8,6 +11,10 @@ use Rattle.criteria.specs.Criteria.{Ops, Laws}
 -- the nearest number that 64 bits with a sign can hold
 abbrev pub hold : ℤ → ℤ
 hold z = saturated 63 z
+
+-- a list has the first powers of a base, each held
+abbrev pub Powers-of : ℕ → List ℤ → Type 0
+Powers-of base powers = (k : ℕ) → k < 48 → getD powers k (pos 0) ≡ hold (pos (base ^ k))
 
 -- an entry: share × (parts ^ (left − 1) × amount + later value) more, each result held
 abbrev pub mean : Ops ℤ ℤ

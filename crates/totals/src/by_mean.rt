@@ -23,7 +23,7 @@ pub fn plan_mean<B: Book>(
     ensures totals { λ r. ⌜ made r (λ _. Expected-totals (model (now (book .entry))) visits (now (remedies .exit)) (now (values .exit))) ⌝ }
     ensures greatest { λ r. ⌜ made r (λ _. Greatest-expected (model (now (book .entry))) visits (now (remedies .exit))) ⌝ }
 {
-    plan(book, &Mean, visits, values, remedies)
+    plan(book, &Mean::of(book.parts()), visits, values, remedies)
 }
 
 // Judges a table of remedies by the mean. The values are its expected totals.
@@ -36,5 +36,5 @@ pub fn judge_mean<B: Book>(
     ensures answers { λ r. ⌜ Judge-answers mean (model (now (book .entry))) visits r (now (values .entry)) (now (values .exit)) (now (remedies .entry)) ⌝ }
     ensures totals { λ r. ⌜ made r (λ _. Expected-totals (model (now (book .entry))) visits (now (remedies .entry)) (now (values .exit))) ⌝ }
 {
-    judge(book, &Mean, visits, remedies, values)
+    judge(book, &Mean::of(book.parts()), visits, remedies, values)
 }
