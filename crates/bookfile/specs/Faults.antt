@@ -1,6 +1,7 @@
 -- The number and the three places that a fault of the file is reported by.
 use Prim.Native.Nat.{ℕ}
 use Rattle.fields.specs.Faults.{line-fault-number, line-fault-places}
+use Rattle.fields.specs.Checking.{Reported, reported}
 use Rattle.bookfile.specs.declared.faults.FileFault.{FileFault}
 use Rattle.bookfile.specs.declared.faults.FileFault.the-variants.{Line, Order, Space, Surplus}
 
@@ -15,3 +16,7 @@ file-fault-places (Line f) = line-fault-places f
 file-fault-places (Order k) = (k, 0, 0)
 file-fault-places (Space k) = (k, 0, 0)
 file-fault-places (Surplus k) = (k, 0, 0)
+
+-- the fault as it is reported: its number, line and field
+abbrev pub reported-file : FileFault → Reported
+reported-file f = reported (file-fault-number f) (file-fault-places f .0) (file-fault-places f .1)

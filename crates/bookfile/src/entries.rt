@@ -3,6 +3,8 @@ ghost use mathlib.Core.Path.{_≡_};
 ghost use Prim.Native.Nat.{_<_, _≤_};
 ghost use Rattle.std.specs.Vec.{made};
 ghost use Rattle.bookfile.specs.Entries.{Small-sizes, Fits-sizes, Fits-entry};
+ghost use Rattle.bookfile.specs.Entered.{Sizes-read, Entry-read, Fields-read, size-values, record-values, worth-values};
+ghost use Rattle.bookfile.specs.File.{size-form, record-form, worth-form};
 use books::record::Record;
 use fields::faults::FieldFault;
 use fields::faults::LineFault;
@@ -33,9 +35,28 @@ pub(crate) enum Entry {
     End,
 }
 
-// The first line: `B`, conditions, remedies, parts.
+// After `B`: conditions, remedies, parts.
+fn sizes_in(fields: Fields<'_>) -> Result<Sizes, FieldFault>
+    ensures read { λ r. ⌜ Fields-read size-form size-values (fields .entry .line) (fields .entry .place) (now (fields .entry .rest)) r ⌝ }
+    ensures small { λ r. ⌜ made r Small-sizes ⌝ }
+{
+    let (conditions, fields) = fields.cut();
+    let conditions = natural(conditions, 1, 32)? as usize;
+    let (remedies, fields) = fields.cut();
+    let remedies = natural(remedies, 1, 8)? as usize;
+    let (parts, _) = fields.cut();
+    let parts = natural(parts, 1, 1000)?;
+    Ok(Sizes {
+        conditions,
+        remedies,
+        parts,
+    })
+}
+
+// The first line.
 pub(crate) fn sizes_of(line: Line<'_>) -> Result<Sizes, LineFault>
-    ensures { λ r. ⌜ made r Small-sizes ⌝ }
+    ensures read { λ r. ⌜ Sizes-read (line .entry .number) (now (line .entry .text)) r ⌝ }
+    ensures small { λ r. ⌜ made r Small-sizes ⌝ }
 {
     let (first, rest) = Fields::of(line).cut();
     match letter(first)? {
@@ -46,23 +67,14 @@ pub(crate) fn sizes_of(line: Line<'_>) -> Result<Sizes, LineFault>
         })),
     }
     counted(line, 3)?;
-    let (conditions, rest) = rest.cut();
-    let conditions = natural(conditions, 1, 32)? as usize;
-    let (remedies, rest) = rest.cut();
-    let remedies = natural(remedies, 1, 8)? as usize;
-    let (parts, _) = rest.cut();
-    let parts = natural(parts, 1, 1000)?;
-    Ok(Sizes {
-        conditions,
-        remedies,
-        parts,
-    })
+    Ok(sizes_in(rest)?)
 }
 
 // After `R`: condition, remedy, next, share, amount.
 fn record_of(sizes: Sizes, fields: Fields<'_>) -> Result<Record, FieldFault>
     requires { ⌜ Small-sizes sizes ⌝ }
-    ensures { λ r. ⌜ made r (Fits-sizes sizes) ⌝ }
+    ensures read { λ r. ⌜ Fields-read (record-form (sizes .conditions) (sizes .remedies) (sizes .parts)) record-values (fields .entry .line) (fields .entry .place) (now (fields .entry .rest)) r ⌝ }
+    ensures fits { λ r. ⌜ made r (Fits-sizes sizes) ⌝ }
 {
     let last = sizes.conditions as u32 - 1;
     let (condition, fields) = fields.cut();
@@ -87,7 +99,8 @@ fn record_of(sizes: Sizes, fields: Fields<'_>) -> Result<Record, FieldFault>
 // After `C`: condition, worth.
 fn worth_of(sizes: Sizes, fields: Fields<'_>) -> Result<(usize, i64), FieldFault>
     requires { ⌜ Small-sizes sizes ⌝ }
-    ensures { λ r. ⌜ made r (λ p. p .0 < sizes .conditions) ⌝ }
+    ensures read { λ r. ⌜ Fields-read (worth-form (sizes .conditions)) worth-values (fields .entry .line) (fields .entry .place) (now (fields .entry .rest)) r ⌝ }
+    ensures fits { λ r. ⌜ made r (λ p. p .0 < sizes .conditions) ⌝ }
 {
     let (condition, fields) = fields.cut();
     let condition = natural(condition, 0, sizes.conditions as u32 - 1)? as usize;
@@ -100,7 +113,8 @@ fn worth_of(sizes: Sizes, fields: Fields<'_>) -> Result<(usize, i64), FieldFault
 // worths, then a worth for each condition, then the end.
 pub(crate) fn entry_of(sizes: Sizes, worths: usize, line: Line<'_>) -> Result<Entry, LineFault>
     requires { ⌜ Small-sizes sizes ⌝ }
-    ensures { λ r. ⌜ made r (Fits-entry sizes worths) ⌝ }
+    ensures read { λ r. ⌜ Entry-read sizes worths (line .entry .number) (now (line .entry .text)) r ⌝ }
+    ensures fits { λ r. ⌜ made r (Fits-entry sizes worths) ⌝ }
 {
     let (first, rest) = Fields::of(line).cut();
     match letter(first)? {

@@ -1,5 +1,6 @@
 // The book file, and reading it.
 mod entries;
 pub mod faults;
+pub mod laws;
 mod progress;
 pub mod read;

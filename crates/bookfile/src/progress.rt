@@ -1,7 +1,10 @@
 // How far the reading of a file has come.
 ghost use mathlib.Core.Path.{_≡_};
 ghost use Prim.Native.Nat.{_+_, _*_, _<_, _≤_};
+ghost use Rattle.std.specs.Results.{Cases};
 ghost use Rattle.std.specs.Vec.{made};
+ghost use Rattle.books.specs.Entries.{key};
+ghost use Rattle.bookfile.specs.Advance.{Not-entered, Entry-entered, Entry-stopped};
 ghost use Rattle.bookfile.specs.Entries.{Small-sizes, Fits-sizes, Fits-entry, Has-space};
 use super::entries::Entry;
 use super::entries::Sizes;
@@ -42,7 +45,7 @@ impl Progress {
     // After the first line.
     pub(crate) fn begun(sizes: Sizes) -> Progress
         requires { ⌜ Small-sizes sizes ⌝ }
-        ensures { λ p. ⌜ (p .conditions ≡ sizes .conditions) × (p .remedies ≡ sizes .remedies) × (p .parts ≡ sizes .parts) × (p .count ≡ 0) × (p .worths ≡ 0) ⌝ }
+        ensures { λ p. ⌜ (p .conditions ≡ sizes .conditions) × (p .remedies ≡ sizes .remedies) × (p .parts ≡ sizes .parts) × (p .least ≡ 0) × (p .count ≡ 0) × (p .worths ≡ 0) ⌝ }
     {
         let Sizes {
             conditions,
@@ -96,7 +99,8 @@ impl Progress {
         requires condition { ⌜ now entry .condition < 32 ⌝ }
         requires remedy { ⌜ now entry .remedy < 8 ⌝ }
         requires next { ⌜ now entry .next < 32 ⌝ }
-        ensures { λ r. ⌜ made r (λ p. (self .count < room) × (p .count ≡ self .count + 1) × (p .worths ≡ self .worths) × (p .conditions ≡ self .conditions) × (p .remedies ≡ self .remedies) × (p .parts ≡ self .parts)) ⌝ }
+        ensures answer { λ r. ⌜ Cases r (λ p. (self .least ≤ key (now (entry .entry))) × (p .least ≡ key (now (entry .entry)) + 1)) (Not-entered (self .count + self .worths + 2) (key (now (entry .entry)) < self .least) (room ≤ self .count)) ⌝ }
+        ensures grown { λ r. ⌜ made r (λ p. (self .count < room) × (p .count ≡ self .count + 1) × (p .worths ≡ self .worths) × (p .conditions ≡ self .conditions) × (p .remedies ≡ self .remedies) × (p .parts ≡ self .parts)) ⌝ }
     {
         let line = self.line();
         let order = order_of(entry);
@@ -127,7 +131,8 @@ impl Progress {
     // With the worth of one condition more.
     pub(crate) fn with_worth(self, condition: usize, room: usize) -> Result<Progress, FileFault>
         requires { ⌜ condition < self .conditions ⌝ }
-        ensures { λ r. ⌜ made r (λ p. (self .worths < room) × (p .count ≡ self .count) × (p .worths ≡ self .worths + 1) × (p .conditions ≡ self .conditions) × (p .remedies ≡ self .remedies) × (p .parts ≡ self .parts)) ⌝ }
+        ensures answer { λ r. ⌜ Cases r (λ p. (condition ≡ self .worths) × (p .least ≡ self .least)) (Not-entered (self .count + self .worths + 2) (condition ≡ self .worths → ⊥) (room ≤ self .worths)) ⌝ }
+        ensures grown { λ r. ⌜ made r (λ p. (self .worths < room) × (p .count ≡ self .count) × (p .worths ≡ self .worths + 1) × (p .conditions ≡ self .conditions) × (p .remedies ≡ self .remedies) × (p .parts ≡ self .parts)) ⌝ }
     {
         let line = self.line();
         if condition != self.worths {
@@ -162,6 +167,8 @@ impl Progress {
         worths: usize,
     ) -> Result<Progress, FileFault>
         requires { ⌜ Fits-entry (record { conditions = self .conditions; remedies = self .remedies; parts = self .parts }) (self .worths) (now entry) ⌝ }
+        ensures answer { λ r. ⌜ Cases r (λ p. Entry-entered records worths (self .conditions) (self .remedies) (self .parts) (self .least) (self .count) (self .worths) (now (entry .entry)) (p .least) (p .count) (p .worths)) (Entry-stopped records worths (self .conditions) (self .remedies) (self .parts) (self .least) (self .count) (self .worths) (now (entry .entry))) ⌝ }
+        ensures sizes { λ r. ⌜ made r (λ p. (p .conditions ≡ self .conditions) × (p .remedies ≡ self .remedies) × (p .parts ≡ self .parts)) ⌝ }
         ensures space { λ r. ⌜ made r (λ _. Has-space (now (entry .entry)) (self .count) records (self .worths) worths) ⌝ }
         ensures grown { λ r. ⌜ made r (λ p. (self .count ≤ records → p .count ≤ records) × (self .worths ≤ worths → p .worths ≤ worths)) ⌝ }
     {

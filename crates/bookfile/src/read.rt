@@ -1,8 +1,13 @@
 // Reading a book file into lent tables.
 ghost use mathlib.Core.Path.{_≡_};
-ghost use Prim.Native.Nat.{_<_, _≤_};
+ghost use mathlib.Core.List.{[]};
+ghost use Prim.Native.Nat.{_+_, _<_, _≤_};
+ghost use Rattle.bookfile.specs.declared.faults.FileFault.the-variants.{Surplus};
 ghost use lib.ListN.{length};
+ghost use Rattle.std.specs.Results.{Cases};
 ghost use Rattle.std.specs.Vec.{made};
+ghost use Rattle.bookfile.specs.Advance.{Entry-next, No-entry};
+ghost use Rattle.bookfile.specs.FileCalls.{Check-answers};
 ghost use Rattle.bookfile.specs.Entries.{Fits-entry, Readable};
 use super::entries::Entry;
 use super::entries::entry_of;
@@ -25,6 +30,7 @@ pub struct ReadBook {
 
 // What the next line says, and the bytes after it.
 fn next_entry<'a>(progress: &Progress, bytes: &'a [u8]) -> Result<(Entry, &'a [u8]), LineFault>
+    ensures read { λ r. ⌜ Cases r (λ p. Entry-next (now (progress .entry) .conditions) (now (progress .entry) .remedies) (now (progress .entry) .parts) (now (progress .entry) .count) (now (progress .entry) .worths) (now (bytes .entry)) (p .0) (now (p .1))) (No-entry (now (progress .entry) .conditions) (now (progress .entry) .remedies) (now (progress .entry) .parts) (now (progress .entry) .count) (now (progress .entry) .worths) (now (bytes .entry))) ⌝ }
     ensures fits { λ r. ⌜ made r (λ p. Fits-entry (record { conditions = now (progress .entry) .conditions; remedies = now (progress .entry) .remedies; parts = now (progress .entry) .parts }) (now (progress .entry) .worths) (p .0)) ⌝ }
     ensures less { λ r. ⌜ made r (λ p. length (now (p .1)) < length (now (bytes .entry))) ⌝ }
 {
@@ -34,7 +40,8 @@ fn next_entry<'a>(progress: &Progress, bytes: &'a [u8]) -> Result<(Entry, &'a [u
 
 // After the end line.
 fn ended(progress: &Progress, rest: &[u8]) -> Result<ReadBook, FileFault>
-    ensures { λ r. ⌜ made r (λ b. (b .conditions ≡ now (progress .entry) .conditions) × (1 ≤ b .conditions) × (b .conditions ≤ 32) × (b .count ≡ now (progress .entry) .count)) ⌝ }
+    ensures answer { λ r. ⌜ Cases r (λ b. (now (rest .entry) ≡ []) × (b .remedies ≡ now (progress .entry) .remedies) × (b .parts ≡ now (progress .entry) .parts)) (λ f. (f ≡ Surplus (now (progress .entry) .count + now (progress .entry) .worths + 3)) × (0 < length (now (rest .entry)))) ⌝ }
+    ensures found { λ r. ⌜ made r (λ b. (b .conditions ≡ now (progress .entry) .conditions) × (1 ≤ b .conditions) × (b .conditions ≤ 32) × (b .count ≡ now (progress .entry) .count)) ⌝ }
 {
     if rest.len() > 0 {
         return Err(FileFault::Surplus {
@@ -51,7 +58,9 @@ fn ended(progress: &Progress, rest: &[u8]) -> Result<ReadBook, FileFault>
 }
 
 // Whether the bytes are a book file whose records and worths have room: what it holds, or its first fault.
-fn check(bytes: &[u8], records: usize, worths: usize) -> Result<ReadBook, FileFault> {
+fn check(bytes: &[u8], records: usize, worths: usize) -> Result<ReadBook, FileFault>
+    ensures { λ r. ⌜ Check-answers records worths (now (bytes .entry)) r ⌝ }
+{
     let (first, mut rest) = cut_line(1, bytes)?;
     let mut progress = Progress::begun(sizes_of(first)?);
     loop {

@@ -1,1 +1,10 @@
+pub mod Digits
+pub mod Splitting
+pub mod Faultless
+pub mod Faulted
+pub mod Passing
 pub mod Writing
+pub mod CodeLines
+pub mod CodeNumerals
+pub mod CodeNumbers
+pub mod CodeLetters

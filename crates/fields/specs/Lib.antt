@@ -3,3 +3,4 @@ pub mod Numerals
 pub mod Lines
 pub mod Kinds
 pub mod Checking
+pub mod Views

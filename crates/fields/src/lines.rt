@@ -2,7 +2,9 @@
 ghost use mathlib.Core.Path.{_≡_};
 ghost use Prim.Native.Nat.{_+_, _<_, _≤_};
 ghost use lib.ListN.{length};
-ghost use Rattle.std.specs.Vec.{made};
+ghost use Rattle.std.specs.Results.{Cases};
+ghost use Rattle.fields.specs.Lines.{split};
+ghost use Rattle.fields.specs.Views.{Line-cut, No-line};
 use super::faults::LineFault;
 
 // A line without its newline, and its number.
@@ -14,6 +16,7 @@ pub struct Line<'a> {
 
 // Where a byte first stands, or the length where it does not.
 pub fn place_of(byte: u8, bytes: &[u8]) -> usize
+    ensures place { λ r. ⌜ r ≡ length (split byte (now (bytes .entry)) .0) ⌝ }
     ensures bound { λ r. ⌜ r ≤ length (now (bytes .entry)) ⌝ }
 {
     for (i, x) in bytes.iter().enumerate() {
@@ -26,7 +29,7 @@ pub fn place_of(byte: u8, bytes: &[u8]) -> usize
 
 // The line that the bytes begin with, and the bytes after it.
 pub fn cut_line<'a>(number: usize, bytes: &'a [u8]) -> Result<(Line<'a>, &'a [u8]), LineFault>
-    ensures { λ r. ⌜ made r (λ p. length (now (p .1)) < length (now (bytes .entry))) ⌝ }
+    ensures { λ r. ⌜ Cases r (λ p. Line-cut number (now (bytes .entry)) (p .0 .number) (now (p .0 .text)) (now (p .1))) (No-line number (now (bytes .entry))) ⌝ }
 {
     let at = place_of(b'\n', bytes);
     if at >= bytes.len() {

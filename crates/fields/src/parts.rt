@@ -1,6 +1,12 @@
 // The fields of a line, parted by tabs.
-ghost use Prim.Native.Nat.{_≤_};
-ghost use lib.ListN.{length};
+ghost use mathlib.Core.Path.{_≡_};
+ghost use mathlib.Core.Bool.{true, false};
+ghost use Prim.Native.Nat.{_+_, _≤_};
+ghost use lib.ListN.{length, drop};
+ghost use Rattle.std.specs.Results.{Cases};
+ghost use Rattle.std.specs.Text.{asciiLetter};
+ghost use Rattle.fields.specs.Lines.{split};
+ghost use Rattle.fields.specs.Views.{bytes-of, rightly-told, lone-letter, Cut-field, Left-after};
 use super::faults::FieldFault;
 use super::faults::LineFault;
 use super::lines::Line;
@@ -20,6 +26,7 @@ pub struct Placed<'a> {
     pub line: usize,
     pub place: usize,
     pub field: Field<'a>,
+    ghost told: { rightly-told field ≡ true },
 }
 
 // What is left of a line, from the field with this place on.
@@ -30,7 +37,11 @@ pub struct Fields<'a> {
     rest: &'a [u8],
 }
 
-fn field_of(part: &[u8]) -> Field<'_> {
+// What a part is taken for.
+fn field_of(part: &[u8]) -> Field<'_>
+    ensures whole { λ r. ⌜ bytes-of r ≡ now (part .entry) ⌝ }
+    ensures told { λ r. ⌜ rightly-told r ≡ true ⌝ }
+{
     match part {
         [b] if b.is_ascii_alphabetic() => Field::Letter(char::from(*b)),
         [b'0'..=b'9', ..] => Field::Number(part),
@@ -42,6 +53,7 @@ fn field_of(part: &[u8]) -> Field<'_> {
 // What stands after the byte at a place.
 fn past(bytes: &[u8], at: usize) -> &[u8]
     requires { ⌜ at ≤ length (now bytes) ⌝ }
+    ensures { λ r. ⌜ now r ≡ drop (at + 1) (now (bytes .entry)) ⌝ }
 {
     if at < bytes.len() {
         &bytes[at + 1..]
@@ -51,7 +63,9 @@ fn past(bytes: &[u8], at: usize) -> &[u8]
 }
 
 impl<'a> Fields<'a> {
-    pub fn of(line: Line<'a>) -> Fields<'a> {
+    pub fn of(line: Line<'a>) -> Fields<'a>
+        ensures { λ r. ⌜ (r .line ≡ line .entry .number) × (r .place ≡ 1) × (now (r .rest) ≡ now (line .entry .text)) ⌝ }
+    {
         Fields {
             line: line.number,
             place: 1,
@@ -60,7 +74,10 @@ impl<'a> Fields<'a> {
     }
 
     // The next field, empty past the last one, and the fields after it.
-    pub fn cut(self) -> (Placed<'a>, Fields<'a>) {
+    pub fn cut(self) -> (Placed<'a>, Fields<'a>)
+        ensures field { λ r. ⌜ Cut-field (self .entry .line) (self .entry .place) (now (self .entry .rest)) (r .0 .line) (r .0 .place) (r .0 .field) ⌝ }
+        ensures after { λ r. ⌜ Left-after (self .entry .line) (self .entry .place) (now (self .entry .rest)) (r .1 .line) (r .1 .place) (now (r .1 .rest)) ⌝ }
+    {
         let rest = self.rest;
         let line = self.line;
         let place = self.place;
@@ -79,7 +96,9 @@ impl<'a> Fields<'a> {
 }
 
 // Declines a line that has not just so many fields after its letter.
-pub fn counted(line: Line<'_>, after: usize) -> Result<(), LineFault> {
+pub fn counted(line: Line<'_>, after: usize) -> Result<(), LineFault>
+    ensures { λ r. ⌜ Cases r (λ _. length (split 9 (now (line .entry .text)) .1) ≡ after) (λ e. (e ≡ LineFault.Count (line .entry .number)) × (length (split 9 (now (line .entry .text)) .1) ≡ after → ⊥)) ⌝ }
+{
     let mut tabs: usize = 0;
     for b in line.text {
         if *b == b'\t' {
@@ -94,7 +113,9 @@ pub fn counted(line: Line<'_>, after: usize) -> Result<(), LineFault> {
 }
 
 // The letter of a field.
-pub fn letter(field: Placed<'_>) -> Result<char, FieldFault> {
+pub fn letter(field: Placed<'_>) -> Result<char, FieldFault>
+    ensures { λ r. ⌜ Cases r (λ c. (field .entry .field ≡ Field.Letter c) × (asciiLetter c ≡ true)) (λ e. (e ≡ FieldFault.Letter (field .entry .line) (field .entry .place)) × (lone-letter (bytes-of (field .entry .field)) ≡ false)) ⌝ }
+{
     match field.field {
         Field::Letter(c) => Ok(c),
         _ => Err(FieldFault::Letter {

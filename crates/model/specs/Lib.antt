@@ -1,3 +1,4 @@
 pub mod Model
 pub mod Visits
 pub mod Rows
+pub mod Tables

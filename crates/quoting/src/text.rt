@@ -11,7 +11,7 @@ ghost use Rattle.quoting.specs.Printing.{refusal-line, plan-line, plan-text, p
 use super::fault::Fault;
 use super::tables::Quote;
 use super::tables::Tables;
-use fields::digits::digits_of;
+use fields::spelling::digits_of;
 use std::alloc::AllocError;
 use std::alloc::Global;
 

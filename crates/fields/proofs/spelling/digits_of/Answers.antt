@@ -8,7 +8,7 @@ use Rattle.std.proofs.shelf.Lists.{drop-all}
 use borrow.Author.Needs.{needs}
 use Rattle.fields.specs.Numerals.{Bytes, numeral}
 use Rattle.fields.proofs.Writing.{Written, written-none, written-more, written-all, put-before, tenth-less}
-use Rattle.fields.proofs.digits.digits_of.Needs as need
+use Rattle.fields.proofs.spelling.digits_of.Needs as need
 
 pub loop-at-holds : need.loop-at-holds
 loop-at-holds c =

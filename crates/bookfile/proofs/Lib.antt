@@ -1,0 +1,9 @@
+pub mod Standing
+pub mod Rereading
+pub mod Rewriting
+pub mod Turns
+pub mod Stopping
+pub mod Exactness
+pub mod Unfolding
+pub mod Cutting
+pub mod Advancing
