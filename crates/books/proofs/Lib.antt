@@ -4,3 +4,6 @@ pub mod Agreeing
 pub mod Places
 pub mod Positives
 pub mod Once
+pub mod Sames
+pub mod Rows
+pub mod Starts

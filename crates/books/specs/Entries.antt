@@ -50,3 +50,11 @@ key e = place (e .condition) (e .remedy) (e .next)
 
 abbrev pub Keys-rise : List Record → Type 0
 Keys-rise es = (i j : ℕ) → i < j → j < length es → key (getD es i no-record) < key (getD es j no-record)
+
+-- of the first n rows, a row being a condition and a remedy, in order 8 × condition + remedy: starts has how
+-- many records stand before each
+abbrev pub Starts-below : (n : ℕ) → List Record → (starts : List ℕ) → Type 0
+Starts-below n es starts = (k i : ℕ) → k < n → i < getD starts k 0 → key (getD es i no-record) < k * 32
+
+abbrev pub Starts-above : (n : ℕ) → List Record → (starts : List ℕ) → Type 0
+Starts-above n es starts = (k i : ℕ) → k < n → (getD starts k 0 ≤ i) × (i < length es) → k * 32 ≤ key (getD es i no-record)

@@ -1,5 +1,7 @@
 // The limits that both kinds of book share.
 ghost use mathlib.Core.Path.{_≡_};
+ghost use mathlib.Core.Logic.{_⊎_};
+ghost use Prim.Native.Nat.{_≤_};
 ghost use lib.IntN.{pos};
 ghost use lib.ListN.{length, getD};
 ghost use Rattle.std.specs.Orderings.{Decides};
@@ -49,4 +51,11 @@ pub(crate) fn is_inside(
     ensures { λ r. ⌜ r ≡ inside conditions remedies visit condition remedy ⌝ }
 {
     1 <= visit && visit <= 48 && condition < conditions && remedy < remedies
+}
+
+// The last visit of those that are alike from this one on: 48 from 1 to 48.
+pub(crate) fn last_alike(visit: usize) -> usize
+    ensures { λ r. ⌜ (r ≡ visit) ⊎ ((1 ≤ visit) × (visit ≤ 48) × (r ≡ 48)) ⌝ }
+{
+    if 1 <= visit && visit <= 48 { 48 } else { visit }
 }

@@ -2,7 +2,7 @@ ghost use mathlib.Core.Path.{_≡_};
 ghost use Prim.Native.Nat.{_≤_};
 ghost use lib.ListN.{length};
 ghost use denote.Ref.{now};
-ghost use Rattle.books.specs.Entries.{All-placed, All-valued, Keys-rise, All-small};
+ghost use Rattle.books.specs.Entries.{All-placed, All-valued, Keys-rise, All-small, Starts-below, Starts-above};
 
 mod answers;
 mod making;
@@ -11,7 +11,8 @@ pub use self::answers::ListBookBook;
 use super::record::Record;
 
 // A book that lists what may happen: records rising by condition, remedy and next condition, and the
-// worths. What is not listed has share 0 and amount 0.
+// worths. What is not listed has share 0 and amount 0. `starts` has, for every condition and remedy, how
+// many records stand before theirs.
 #[derive(Clone, Copy)]
 pub struct ListBook<'a> {
     conditions: usize,
@@ -19,6 +20,7 @@ pub struct ListBook<'a> {
     parts: u32,
     records: &'a [Record],
     worths: &'a [i64],
+    starts: [usize; 256],
     ghost some_condition: { 1 ≤ conditions },
     ghost few_conditions: { conditions ≤ 32 },
     ghost some_remedy: { 1 ≤ remedies },
@@ -30,4 +32,6 @@ pub struct ListBook<'a> {
     ghost records_valued: { All-valued parts (now records) },
     ghost records_rise: { Keys-rise (now records) },
     ghost worths_small: { All-small (now worths) },
+    ghost starts_below: { Starts-below 256 (now records) starts },
+    ghost starts_above: { Starts-above 256 (now records) starts },
 }

@@ -1,3 +1,5 @@
 pub mod Places
 pub mod Peaks
 pub mod Products
+pub mod Rows
+pub mod Alike

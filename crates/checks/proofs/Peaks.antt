@@ -9,7 +9,7 @@ use native.Mathlib.Numerals.{add-one}
 use lib.Dec.{T, ltb}
 use lib.IntN.{natAbs}
 use Rattle.std.specs.Orderings.{When}
-use Rattle.std.proofs.shelf.Tests.{cases-lt, ltb-true, lt-ltb, cond-true, cond-false}
+use Rattle.std.proofs.shelf.Tests.{cases-lt, ltb-true, lt-ltb}
 use Rattle.model.specs.Model.{Model, Lawful}
 use Rattle.model.specs.Visits.{visit-after, Bounds, Within-limit, Fits}
 use Rattle.checks.specs.Limit.{Amount-of-size, Reached, Peak, most, greatest-worth, greatest-under, greatest-in, greatest-at, greatest, Has-a-peak, Fits-by-the-peak}
@@ -37,27 +37,6 @@ fits-when m H P parts false top e high = λ fits. high (subst (λ (x : ℕ). Wit
 -- one more
 pub most-more : (n : ℕ) (f : ℕ → ℕ) (top x : ℕ) → top ≡ most n f → x ≡ f n → max top x ≡ most (n + 1) f
 most-more n f top x e here = ap (λ y. max y x) e ∙ ap (max (most n f)) here ∙ ap (λ k. most k f) (sym (add-one n))
-
--- one more that does not count
-pub most-skip : (n : ℕ) (f : ℕ → ℕ) (top : ℕ) → top ≡ most n f → f n ≡ 0 → top ≡ most (n + 1) f
-most-skip n f top e none =
-    let kept : max (most n f) (f n) ≡ most n f = omega arith in
-    e ∙ sym kept ∙ ap (λ k. most k f) (sym (add-one n))
-
--- behind a test that came out true, or false
-pub most-taken : (n : ℕ) (f : ℕ → ℕ) (b : Bool) (top x z : ℕ) → f n ≡ cond b z 0 → b ≡ true → top ≡ most n f → x ≡ z → max top x ≡ most (n + 1) f
-most-taken n f b top x z e t i here = most-more n f top x i (here ∙ sym (e ∙ cond-true b z 0 t))
-
-pub most-left : (n : ℕ) (f : ℕ → ℕ) (b : Bool) (top z : ℕ) → f n ≡ cond b z 0 → b ≡ false → top ≡ most n f → top ≡ most (n + 1) f
-most-left n f b top z e t i = most-skip n f top i (e ∙ cond-false b z 0 t)
-
-pub greatest-more : (m : Model) (H n top x : ℕ) → top ≡ greatest m H → n ≡ visit-after H → x ≡ greatest-at m n → max top x ≡ greatest m (H + 1)
-greatest-more m H n top x e v here =
-    let a : ℕ = max (greatest-worth m) 1 in
-    let f : ℕ → ℕ = λ past. greatest-at m (visit-after past) in
-    let more : max (most H f) x ≡ most (H + 1) f = most-more H f (most H f) x refl (here ∙ ap (greatest-at m) v) in
-    let same : max top x ≡ max a (max (most H f) x) = omega (arith, e) in
-    same ∙ ap (max a) more
 
 most-high : (n : ℕ) (f : ℕ → ℕ) (j : ℕ) → j < n → f j ≤ most n f
 most-high zero f j l = absurd (omega arith)

@@ -5,6 +5,7 @@ ghost use Rattle.model.specs.Visits.{Within-limit, Fits};
 ghost use Rattle.checks.specs.Limit.{Peak, greatest-worth, greatest-under, greatest-in, greatest-at};
 use super::visit::visit_of;
 use model::Book;
+use model::row::Outcome;
 
 // The largest size of a worth.
 fn greatest_worth<B: Book>(book: &B) -> u64
@@ -17,48 +18,59 @@ fn greatest_worth<B: Book>(book: &B) -> u64
     top
 }
 
-// The largest size of an amount of share above 0 under a remedy.
-fn greatest_under<B: Book>(book: &B, visit: usize, condition: usize, remedy: usize) -> u64
+// The largest size of an amount of share above 0 under a remedy; `row` is room for its outcomes.
+fn greatest_under<B: Book>(
+    book: &B,
+    visit: usize,
+    condition: usize,
+    remedy: usize,
+    row: &mut [Outcome; 32],
+) -> u64
     ensures { λ r. ⌜ r ≡ greatest-under (model (now (book .entry))) visit condition remedy ⌝ }
 {
+    let count = book.row(visit, condition, remedy, row);
     let mut top: u64 = 0;
-    for next in 0..book.conditions() {
-        if book.share(visit, condition, remedy, next) > 0 {
-            top = top.max(book.amount(visit, condition, remedy, next).unsigned_abs());
-        }
+    for outcome in &row[..count] {
+        top = top.max(outcome.amount.unsigned_abs());
     }
     top
 }
 
 // The same, or 0 if the remedy is not offered there.
-fn greatest_if_offered<B: Book>(book: &B, visit: usize, condition: usize, remedy: usize) -> u64
+fn greatest_if_offered<B: Book>(
+    book: &B,
+    visit: usize,
+    condition: usize,
+    remedy: usize,
+    row: &mut [Outcome; 32],
+) -> u64
     ensures { λ r. ⌜ r ≡ cond (model (now (book .entry)) .offered visit condition remedy) (greatest-under (model (now (book .entry))) visit condition remedy) 0 ⌝ }
 {
     if book.offered(visit, condition, remedy) {
-        greatest_under(book, visit, condition, remedy)
+        greatest_under(book, visit, condition, remedy, row)
     } else {
         0
     }
 }
 
 // The largest under a remedy that is offered there.
-fn greatest_in<B: Book>(book: &B, visit: usize, condition: usize) -> u64
+fn greatest_in<B: Book>(book: &B, visit: usize, condition: usize, row: &mut [Outcome; 32]) -> u64
     ensures { λ r. ⌜ r ≡ greatest-in (model (now (book .entry))) visit condition ⌝ }
 {
     let mut top: u64 = 0;
     for remedy in 0..book.remedies() {
-        top = top.max(greatest_if_offered(book, visit, condition, remedy));
+        top = top.max(greatest_if_offered(book, visit, condition, remedy, row));
     }
     top
 }
 
 // The largest at a visit, in any condition.
-fn greatest_at<B: Book>(book: &B, visit: usize) -> u64
+fn greatest_at<B: Book>(book: &B, visit: usize, row: &mut [Outcome; 32]) -> u64
     ensures { λ r. ⌜ r ≡ greatest-at (model (now (book .entry))) visit ⌝ }
 {
     let mut top: u64 = 0;
     for condition in 0..book.conditions() {
-        top = top.max(greatest_in(book, visit, condition));
+        top = top.max(greatest_in(book, visit, condition, row));
     }
     top
 }
@@ -67,9 +79,13 @@ fn greatest_at<B: Book>(book: &B, visit: usize) -> u64
 fn peak<B: Book>(book: &B, visits: usize) -> u64
     ensures { λ r. ⌜ Peak (model (now (book .entry))) visits r ⌝ }
 {
+    let mut outcomes = [Outcome::BLANK; 32];
     let mut top = greatest_worth(book).max(1);
-    for row in 0..visits {
-        top = top.max(greatest_at(book, visit_of(row)));
+    let mut row = 0;
+    while row < visits {
+        let visit = visit_of(row);
+        top = top.max(greatest_at(book, visit, &mut outcomes));
+        row = book.alike_until(visit);
     }
     top
 }

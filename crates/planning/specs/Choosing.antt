@@ -1,20 +1,13 @@
--- What may follow a remedy, and the best of the remedies that are offered at a visit in a condition.
+-- The best of the remedies that are offered at a visit in a condition.
 use mathlib.Core.Path.{_≡_}
 use mathlib.Core.Bool.{cond}
 use Prim.Native.Nat.{ℕ, _<_}
 use lib.Dec.{T}
-use lib.IntN.{ℤ}
 use Rattle.std.specs.declared.option.Option.{Option}
 use Rattle.std.specs.declared.option.Option.the-variants.{Some, None}
 use Rattle.model.specs.Model.{Model}
 use Rattle.criteria.specs.Criteria.{Ops}
 use Rattle.criteria.specs.Policies.{remedied}
-
--- a next condition that may follow, with its share and its amount
-pub record Possible (m : Model) (visit s r next share : ℕ) (amount : ℤ) : Type 0 where
-  pub shared : share ≡ m .share visit s r next
-  pub some : 0 < share
-  pub gained : amount ≡ m .amount visit s r next
 
 -- the order of remedies: of equally good ones the first is taken
 abbrev pub Precedes : ℕ → ℕ → Type 0

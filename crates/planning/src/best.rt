@@ -6,6 +6,7 @@ ghost use Rattle.planning.specs.Tables.{at};
 use super::outcomes::value_under;
 use criteria::criterion::Criterion;
 use model::Book;
+use model::row::Outcome;
 
 // Of the pair found so far and one more: the one found, unless it is less good.
 fn preferred<C: Criterion>(
@@ -36,6 +37,7 @@ pub(crate) fn best<B: Book, C: Criterion>(
     left: usize,
     condition: usize,
     later: &[C::Value],
+    row: &mut [Outcome; 32],
 ) -> Option<(u8, C::Value)>
     requires { ⌜ length (now later) ≡ model (now book) .conditions ⌝ }
     ensures { λ r. ⌜ BySome r (None-below (model (now (book .entry))) visit condition (model (now (book .entry)) .remedies)) (λ p. Best (ops (now (by .entry))) (model (now (book .entry))) visit left condition (at (ops (now (by .entry))) (now (later .entry))) (model (now (book .entry)) .remedies) (p .0) (p .1)) ⌝ }
@@ -43,7 +45,7 @@ pub(crate) fn best<B: Book, C: Criterion>(
     let mut found: Option<(u8, C::Value)> = None;
     for remedy in 0..book.remedies() {
         if book.offered(visit, condition, remedy) {
-            let value = value_under(book, by, visit, left, condition, remedy, later);
+            let value = value_under(book, by, visit, left, condition, remedy, later, row);
             found = Some(preferred(by, found, remedy as u8, value));
         }
     }

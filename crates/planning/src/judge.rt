@@ -12,6 +12,7 @@ use checks::refusal::PlanRefusal;
 use checks::visit::visit_of;
 use criteria::criterion::Criterion;
 use model::Book;
+use model::row::Outcome;
 
 // Writes the values of a row of given remedies, from the row of values after it.
 fn judge_row<B: Book, C: Criterion>(
@@ -21,6 +22,7 @@ fn judge_row<B: Book, C: Criterion>(
     left: usize,
     remedies: &[u8],
     values: &mut [C::Value],
+    outcomes: &mut [Outcome; 32],
 )
     requires short { ⌜ row < 48 ⌝ }
     requires room { ⌜ (row + 2) * model (now book) .conditions ≤ length (now values) ⌝ }
@@ -40,6 +42,7 @@ fn judge_row<B: Book, C: Criterion>(
             condition,
             remedy,
             row_after(values, row, conditions),
+            outcomes,
         );
         values[start + condition] = value;
     }
@@ -56,9 +59,10 @@ fn fill_values<B: Book, C: Criterion>(
     requires { ⌜ In-order (offers (model (now book))) visits (length (now values)) (length (now remedies)) ⌝ }
     ensures { λ _. ⌜ Rows-written (ops (now (by .entry))) (model (now (book .entry))) (Valued (ops (now (by .entry))) (model (now (book .entry)))) visits (now (values .entry)) (now (values .exit)) (now (remedies .entry)) (now (remedies .entry)) ⌝ }
 {
+    let mut outcomes = [Outcome::BLANK; 32];
     fill_closing(book, by, visits, values);
     for row in (0..visits).rev() {
-        judge_row(book, by, row, visits - row, remedies, values);
+        judge_row(book, by, row, visits - row, remedies, values, &mut outcomes);
     }
 }
 

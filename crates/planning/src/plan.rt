@@ -13,6 +13,7 @@ use checks::refusal::PlanRefusal;
 use checks::visit::visit_of;
 use criteria::criterion::Criterion;
 use model::Book;
+use model::row::Outcome;
 
 // Writes the best remedies of a row and their values, from the row of values after it.
 fn fill_row<B: Book, C: Criterion>(
@@ -22,6 +23,7 @@ fn fill_row<B: Book, C: Criterion>(
     left: usize,
     values: &mut [C::Value],
     remedies: &mut [u8],
+    outcomes: &mut [Outcome; 32],
 )
     requires short { ⌜ row < 48 ⌝ }
     requires room { ⌜ (row + 2) * model (now book) .conditions ≤ length (now values) ⌝ }
@@ -40,6 +42,7 @@ fn fill_row<B: Book, C: Criterion>(
             left,
             condition,
             row_after(values, row, conditions),
+            outcomes,
         ) {
             let (remedy, value) = pair;
             values[start + condition] = value;
@@ -60,9 +63,10 @@ fn fill<B: Book, C: Criterion>(
     requires offers { ⌜ Open (offers (model (now book))) visits ⌝ }
     ensures { λ _. ⌜ Rows-written (ops (now (by .entry))) (model (now (book .entry))) (Chosen (ops (now (by .entry))) (model (now (book .entry)))) visits (now (values .entry)) (now (values .exit)) (now (remedies .entry)) (now (remedies .exit)) ⌝ }
 {
+    let mut outcomes = [Outcome::BLANK; 32];
     fill_closing(book, by, visits, values);
     for row in (0..visits).rev() {
-        fill_row(book, by, row, visits - row, values, remedies);
+        fill_row(book, by, row, visits - row, values, remedies, &mut outcomes);
     }
 }
 

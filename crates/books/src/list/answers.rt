@@ -10,8 +10,10 @@ ghost use Rattle.books.specs.Lawfuls.{list-lawful};
 ghost use Rattle.books.specs.Means.{list-means};
 use super::ListBook;
 use crate::limits::is_inside;
+use crate::limits::last_alike;
 use crate::record::Record;
 use model::Book;
+use model::row::Outcome;
 
 // A condition, a remedy and a next condition as one number that rises with them.
 fn place_of(condition: usize, remedy: usize, next: usize) -> usize
@@ -22,7 +24,7 @@ fn place_of(condition: usize, remedy: usize, next: usize) -> usize
 }
 
 // How many of the records stand before a place in the order.
-fn before(records: &[Record], wanted: usize) -> usize
+pub(super) fn before(records: &[Record], wanted: usize) -> usize
     requires placed { ⌜ All-placed 32 8 (now records) ⌝ }
     requires rise { ⌜ Keys-rise (now records) ⌝ }
     ensures below { λ r. ⌜ ((i : ℕ) → i < r → key (getD (now (records .entry)) i no-record) < wanted) ⌝ }
@@ -81,12 +83,21 @@ impl<'a> ListBook<'a> {
         self.worths
     }
 
+    // How many of the records stand before the row of a condition and a remedy.
+    fn first_of(&self, condition: usize, remedy: usize) -> usize
+        requires { ⌜ (condition < now self .conditions) × (remedy < now self .remedies) ⌝ }
+        ensures below { λ r. ⌜ ((i : ℕ) → i < r → key (getD (now (now (self .entry) .records)) i no-record) < place condition remedy 0) ⌝ }
+        ensures above { λ r. ⌜ ((i : ℕ) → r ≤ i → i < length (now (now (self .entry) .records)) → place condition remedy 0 ≤ key (getD (now (now (self .entry) .records)) i no-record)) ⌝ }
+    {
+        self.starts[condition * 8 + remedy]
+    }
+
     // Whether a record has this condition and this remedy.
     fn lists(&self, condition: usize, remedy: usize) -> bool
         requires { ⌜ (condition < now self .conditions) × (remedy < now self .remedies) ⌝ }
         ensures { λ r. ⌜ r ≡ some-above (λ j. listed (now (now (self .entry) .records)) condition remedy j .share) (now (self .entry) .conditions) ⌝ }
     {
-        let at = before(self.records, place_of(condition, remedy, 0));
+        let at = self.first_of(condition, remedy);
         if at < self.records.len() {
             let found = self.records[at];
             if found.condition == condition && found.remedy == remedy {
@@ -147,5 +158,30 @@ pub impl<'a> Book for ListBook<'a> as ListBookBook {
         } else {
             0
         }
+    }
+
+    fn row(&self, visit: usize, condition: usize, remedy: usize, row: &mut [Outcome; 32]) -> usize {
+        let inside = is_inside(self.conditions, self.remedies, visit, condition, remedy);
+        if !inside {
+            return 0;
+        }
+        let mut count: usize = 0;
+        for at in self.first_of(condition, remedy)..self.records.len() {
+            let found = self.records[at];
+            if found.condition != condition || found.remedy != remedy {
+                break;
+            }
+            row[count] = Outcome {
+                next: found.next,
+                share: found.share,
+                amount: found.amount,
+            };
+            count += 1;
+        }
+        count
+    }
+
+    fn alike_until(&self, visit: usize) -> usize {
+        last_alike(visit)
     }
 }

@@ -3,10 +3,11 @@ ghost use mathlib.Core.List.{[], _∷_};
 ghost use lib.IntN.{pos};
 ghost use lib.ListN.{length};
 ghost use Rattle.std.specs.Orderings.{Decides};
-ghost use Rattle.books.specs.Entries.{Record-fits, Rising};
+ghost use Rattle.books.specs.Entries.{Record-fits, Rising, All-placed, Keys-rise, Starts-below, Starts-above};
 ghost use Rattle.books.specs.Making.{First-failing, Entered, List-checked};
 ghost use Rattle.books.specs.Made.{Of-list, List-made};
 use super::ListBook;
+use super::answers::before;
 use crate::limits::first_large;
 use crate::limits::is_small;
 use crate::limits::sizes_fit;
@@ -75,6 +76,20 @@ fn check(
     Ok(())
 }
 
+// How many of the records stand before each condition and remedy.
+fn starts_of(records: &[Record]) -> [usize; 256]
+    requires placed { ⌜ All-placed 32 8 (now records) ⌝ }
+    requires rise { ⌜ Keys-rise (now records) ⌝ }
+    ensures below { λ r. ⌜ Starts-below 256 (now (records .entry)) r ⌝ }
+    ensures above { λ r. ⌜ Starts-above 256 (now (records .entry)) r ⌝ }
+{
+    let mut starts = [0; 256];
+    for row in 0..256 {
+        starts[row] = before(records, row * 32);
+    }
+    starts
+}
+
 impl<'a> ListBook<'a> {
     // The smallest book: nothing listed, worth 0.
     pub fn blank() -> ListBook<'a>
@@ -86,6 +101,7 @@ impl<'a> ListBook<'a> {
             parts: 1,
             records: &[],
             worths: &[0],
+            starts: [0; 256],
         }
     }
 
@@ -107,6 +123,7 @@ impl<'a> ListBook<'a> {
             parts,
             records,
             worths,
+            starts: starts_of(records),
         };
         Ok(())
     }

@@ -9,6 +9,7 @@ ghost use Rattle.books.specs.Means.{table-means};
 ghost use Rattle.books.specs.Tables.{spot};
 use super::TableBook;
 use crate::limits::is_inside;
+use crate::limits::last_alike;
 use model::Book;
 
 impl<'a> TableBook<'a> {
@@ -85,5 +86,9 @@ pub impl<'a> Book for TableBook<'a> as TableBookBook {
         } else {
             0
         }
+    }
+
+    fn alike_until(&self, visit: usize) -> usize {
+        last_alike(visit)
     }
 }

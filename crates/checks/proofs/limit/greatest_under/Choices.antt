@@ -1,9 +1,7 @@
 use mathlib.Core.Path.{_≡_}
-use mathlib.Core.Bool.{cond}
-use lib.Dec.{ltb}
-use lib.IntN.{natAbs}
-use Rattle.checks.specs.Limit.{most}
+use lib.ListN.{take}
+use Rattle.checks.proofs.Rows.{size-of}
 use Rattle.checks.proofs.limit.greatest_under.Given as given
 
-abbrev pub Inv-loop-next : given.InvT-loop-next
-Inv-loop-next g l = let m = g .B·Book .model (l .book) in l .top ≡ most (l .next) (λ j. cond (ltb 0 (m .share (l .visit) (l .condition) (l .remedy) j)) (natAbs (m .amount (l .visit) (l .condition) (l .remedy) j)) 0)
+abbrev pub Inv-loop-outcome : given.InvT-loop-outcome
+Inv-loop-outcome g l = l .top ≡ size-of (take (l .outcome-index) (l .outcome-items))

@@ -1,4 +1,4 @@
-use Prim.Native.Nat.{ℕ, _<_}
+use Prim.Native.Nat.{ℕ, _-_, _<_}
 use mathlib.Core.Path.{_≡_}
 use lib.Dec.{T}
 use Rattle.std.specs.declared.option.Option.the-variants.{None}
@@ -9,6 +9,9 @@ use Rattle.checks.proofs.search.first_uneven.Given as given
 
 abbrev pub Inv-places : given.InvT-places
 Inv-places g l = let m = g .B·Book .model (l .book) in (l .place ≡ None) × Clear (offers m) (l .visits) (Even-in m) (visit-after (l .row)) 0
+
+abbrev pub μ-places : given.MeasureT-places
+μ-places g l = l .visits - l .row
 
 abbrev pub Inv-loop-condition : given.InvT-loop-condition
 Inv-loop-condition g l = let m = g .B·Book .model (l .book) in (l .place ≡ None) × Clear (offers m) (l .visits) (Even-in m) (l .visit) (l .condition)

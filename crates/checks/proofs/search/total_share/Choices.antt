@@ -1,7 +1,8 @@
 use Prim.Native.Nat.{_≤_, _*_}
 use mathlib.Core.Path.{_≡_}
-use Rattle.model.specs.Model.{weight}
+use lib.ListN.{take}
+use Rattle.checks.proofs.Rows.{shares-of}
 use Rattle.checks.proofs.search.total_share.Given as given
 
-abbrev pub Inv-loop-next : given.InvT-loop-next
-Inv-loop-next g l = (l .sum ≡ weight (g .B·Book .model (l .book)) (l .visit) (l .condition) (l .remedy) (l .next)) × (l .sum ≤ 1000 * l .next)
+abbrev pub Inv-loop-outcome : given.InvT-loop-outcome
+Inv-loop-outcome g l = (l .sum ≡ shares-of (take (l .outcome-index) (l .outcome-items))) × (l .sum ≤ 1000 * l .outcome-index)

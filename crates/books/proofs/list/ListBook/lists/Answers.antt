@@ -21,7 +21,7 @@ unlisted b s x m w e below above away =
 pub returns-then-found-remedy : need.returns-then-found-remedy
 returns-then-found-remedy c =
     let b = c .args .self .now in
-    let at = c .before-at .result in
+    let at = c .first-of-at .result in
     let l : at < length (b .records .now) = omega arith in
     let found = getD (b .records .now) at no-record in
     let same : listed (b .records .now) (c .args .condition) (c .args .remedy) (found .next) ≡ found = listed-hit (b .records .now) _ _ _ at (b .«records_rise») l (omega arith) (omega arith) refl in
@@ -32,10 +32,10 @@ returns-then-found-remedy c =
 
 pub returns-else-found-condition : need.returns-else-found-condition
 returns-else-found-condition c =
-    let e = c .before-at .ensures in
-    unlisted (c .args .self .now) _ _ (c .before-at .result) _ (c .place-of .ensures) (e .below) (e .above) (λ l p. ⊎-elim (λ n. omega arith) (λ n. omega arith) (c .else-found-condition .either))
+    let e = c .first-of-at .ensures in
+    unlisted (c .args .self .now) _ _ (c .first-of-at .result) _ refl (e .below) (e .above) (λ l p. ⊎-elim (λ n. omega arith) (λ n. omega arith) (c .else-found-condition .either))
 
 pub returns-else-at-self : need.returns-else-at-self
 returns-else-at-self c =
-    let e = c .before-at .ensures in
-    unlisted (c .args .self .now) _ _ (c .before-at .result) _ (c .place-of .ensures) (e .below) (e .above) (λ l p. omega arith)
+    let e = c .first-of-at .ensures in
+    unlisted (c .args .self .now) _ _ (c .first-of-at .result) _ refl (e .below) (e .above) (λ l p. omega arith)
