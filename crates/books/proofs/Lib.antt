@@ -4,6 +4,5 @@ pub mod Agreeing
 pub mod Places
 pub mod Positives
 pub mod Once
-pub mod Sames
 pub mod Rows
 pub mod Starts

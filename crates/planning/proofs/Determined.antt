@@ -11,7 +11,7 @@ use Rattle.model.specs.Model.{Model, Lawful, offers}
 use Rattle.criteria.specs.Criteria.{Ops}
 use Rattle.criteria.specs.Policies.{tabled}
 use Rattle.checks.specs.declared.refusal.PlanRefusal.{PlanRefusal}
-use Rattle.planning.specs.Tables.{Kept-past}
+use Rattle.model.specs.Tables.{Kept-past}
 use Rattle.planning.specs.Plans.{Plan-answers}
 use Rattle.planning.specs.Judgements.{Judge-answers}
 use Rattle.planning.specs.Agreeing.{Plans-are-determined, Judgements-are-determined}

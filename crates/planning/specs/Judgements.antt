@@ -11,7 +11,7 @@ use Rattle.criteria.specs.Policies.{tabled}
 use Rattle.checks.specs.Refusals.{refusal-number, One-of}
 use Rattle.checks.specs.Acceptance.{Judge-accepted, Judge-declined}
 use Rattle.checks.specs.declared.refusal.PlanRefusal.{PlanRefusal}
-use Rattle.planning.specs.Tables.{Kept-past}
+use Rattle.model.specs.Tables.{Kept-past}
 use Rattle.planning.specs.Plans.{Values-of}
 
 module _ {V A : Type 0} (o : Ops V A) (m : Model) (H : ℕ) where

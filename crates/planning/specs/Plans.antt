@@ -14,7 +14,8 @@ use Rattle.checks.specs.Acceptance.{In-order, Plan-accepted, Plan-declined}
 use Rattle.checks.specs.declared.refusal.PlanRefusal.{PlanRefusal}
 use Rattle.checks.specs.declared.refusal.PlanRefusal.the-variants.{Stuck}
 use Rattle.planning.specs.Choosing.{Precedes}
-use Rattle.planning.specs.Tables.{Kept-past, at}
+use Rattle.model.specs.Tables.{Kept-past}
+use Rattle.planning.specs.Tables.{at}
 
 module _ {V A : Type 0} (o : Ops V A) (m : Model) (H : ℕ) where
   -- the table holds the values of the choice at every visit, after any history, and the closing values after the last

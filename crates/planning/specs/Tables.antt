@@ -10,11 +10,6 @@ use Rattle.criteria.specs.Criteria.{Ops}
 use Rattle.criteria.specs.Policies.{remedied}
 use Rattle.planning.specs.Choosing.{Best}
 
--- a table is written in its first n entries and keeps the others
-pub record Kept-past {A : Type 0} (n : ℕ) (before after : List A) : Type 0 where
-  pub long : length after ≡ length before
-  pub past : drop n after ≡ drop n before
-
 -- what stands at a place of a table of values; past its end, the closing value of a worth of 0
 abbrev pub at : {V A : Type 0} → Ops V A → List V → ℕ → V
 at o vs i = getD vs i (o .closing (pos 0))

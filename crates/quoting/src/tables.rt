@@ -35,6 +35,7 @@ pub struct Quote {
 }
 
 impl Tables {
+    // All at 0, as long as the type says. Whether there is memory for them is open.
     pub fn new(heap: Global) -> Result<Tables, AllocError> {
         let blank = Record {
             condition: 0,
