@@ -36,8 +36,8 @@ OWN = {
 }
 # fields of records and lemmas that share a name with a field or a function of another type or crate
 SHARED = {"few_conditions", "few_parts", "few_remedies", "first_visit", "is_inside", "shares_fit", "some_condition", "some_parts", "some_remedy"}
-# what a proof of a function reaches by a path: the second part is a name that Rattle makes
-MADE_ROOTS = {"c", "l", "g", "i", "w", "e", "goal", "given", "Goals", "Given"}
+# in the proof of a function: a path that begins so goes on with a name that Rattle makes
+MADE_ROOTS = {"c", "l", "w", "goal"}
 
 
 def files(root, ends):
@@ -91,11 +91,11 @@ def imported(text):
     return found
 
 
-def turned_path(path, names):
+def turned_path(path, names, roots=()):
     """A path of names, its parts parted by dots; a step that Rattle makes keeps its name."""
     parts = path.split(".")
     for i, part in enumerate(parts):
-        made = i == 1 and parts[0] in MADE_ROOTS
+        made = i == 1 and parts[0] in roots
         if part in names and not made:
             parts[i] = names[part]
     return ".".join(parts)
@@ -104,13 +104,13 @@ def turned_path(path, names):
 PATH = re.compile(r"[^\s(){}\[\];,@\"◌λ]+")
 
 
-def turned(line, names, comment):
+def turned(line, names, comment, roots):
     """A line with its names turned, text in quotes kept."""
     out = []
     at = line.find(comment)
     code, said = (line[:at], line[at:]) if at >= 0 and '"' not in line[:at] else (line, "")
     for k, piece in enumerate(re.split(r'("(?:\\.|[^"\\])*")', code)):
-        out.append(piece if k % 2 else PATH.sub(lambda m: turned_path(m.group(), names), piece))
+        out.append(piece if k % 2 else PATH.sub(lambda m: turned_path(m.group(), names, roots), piece))
     return "".join(out) + turned_words(said, names)
 
 
@@ -148,7 +148,8 @@ def main():
         raise SystemExit("\n".join("clash: " + c for c in clash))
     for p, t in texts.items():
         comment = "--" if p.endswith(".antt") else "//"
-        new = "\n".join(turned(line, names, comment) for line in t.split("\n"))
+        roots = MADE_ROOTS if " as goal" in t else ()
+        new = "\n".join(turned(line, names, comment, roots) for line in t.split("\n"))
         if new != t:
             with open(p, "w", encoding="utf-8") as f:
                 f.write(new)

@@ -30,9 +30,9 @@ at_next {k} {i} {f} {fs} {n} {at} {m} {o} {rest} {after} h a few =
 
 pub at_field : {k i : ℕ} {f : Bytes} {fs : List Bytes} {n at m o : ℕ} {rest : Bytes} {g : Field} {x : Checked ℤ} → At k i (f ∷ fs) n at rest → CutField n at rest m o g → (t : Kind) → check_field m o t (bytes_of g) ≡ x → check_field k i t f ≡ x
 at_field {k} {i} {f} {fs} {n} {at} {m} {o} {rest} {g} {x} h c t e =
-    let l : m ≡ k = c.line-is ∙ h.line_is in
+    let l : m ≡ k = c.line_is ∙ h.line_is in
     let p : o ≡ i = c.place_is ∙ h.place_is in
-    let b : bytes_of g ≡ f = c.bytes-are ∙ ap (λ y. y.0) h.left in
+    let b : bytes_of g ≡ f = c.bytes_are ∙ ap (λ y. y.0) h.left in
     sym (ap (λ y. check_field y o t (bytes_of g)) l ∙ (ap (λ y. check_field k y t (bytes_of g)) p ∙ ap (check_field k i t) b)) ∙ e
 
 -- the first of some fields that fails; all that pass

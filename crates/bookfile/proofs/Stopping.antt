@@ -28,7 +28,7 @@ module _ (m w : ℕ) where
   Stops b k bs rest x zs f = Came m w (middle b) k bs → LineGood (may_stand (middle b)) (form (middle b)) rest (x, zs) → enter_line m w (middle b) k (x, zs) ≡ faulty f → Faulty m w (bs ++ rest) f
 
   goes_on : (b : WrittenBook) (rest : Bytes) (x : ℕ) (zs : List ℤ) (g : LineGood (may_stand (middle b)) (form (middle b)) rest (x, zs)) → Goes_on b x g.fields rest
-  goes_on b rest x zs g = record { line = g.line; letter = g.letter; fields = g.all-good }
+  goes_on b rest x zs g = record { line = g.line; letter = g.letter; fields = g.all_good }
 
   stops_record : (b : WrittenBook) (k : ℕ) (bs rest : Bytes) (zs : List ℤ) (f : Reported) → Stops b k bs rest 82 zs f
   stops_record b k bs rest zs f c g h =

@@ -1,4 +1,6 @@
 // The book file, and reading it.
+#![tactic(auto)]
+
 mod entries;
 pub mod faults;
 pub mod laws;

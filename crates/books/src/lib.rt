@@ -1,4 +1,6 @@
 // Books made from tables and from lists of records.
+#![tactic(auto)]
+
 pub mod laws;
 mod limits;
 pub mod list;

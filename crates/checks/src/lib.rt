@@ -1,4 +1,6 @@
 // Whether a book can be planned or judged for some visits, with tables of some lengths, and if not, why.
+#![tactic(auto)]
+
 pub mod laws;
 mod limit;
 pub mod ready;

@@ -8,7 +8,7 @@ use model::row::Outcome;
 
 // The largest size of a worth.
 fn greatest_worth<B: Book>(book: &B) -> u64
-    ensures { result ≡ largest_worth (model book.now) }
+    ensures { result ≡ largest_worth (B.model book.now) }
 {
     let mut top: u64 = 0;
     for condition in 0..book.conditions() {
@@ -25,7 +25,7 @@ fn greatest_under<B: Book>(
     remedy: usize,
     row: &mut [Outcome; 32],
 ) -> u64
-    ensures { result ≡ largest_under (model book.now) visit condition remedy }
+    ensures { result ≡ largest_under (B.model book.now) visit condition remedy }
 {
     let count = book.row(visit, condition, remedy, row);
     let mut top: u64 = 0;
@@ -43,7 +43,7 @@ fn greatest_if_offered<B: Book>(
     remedy: usize,
     row: &mut [Outcome; 32],
 ) -> u64
-    ensures { result ≡ (if (model book.now).offered visit condition remedy then largest_under (model book.now) visit condition remedy else 0) }
+    ensures { result ≡ (if (B.model book.now).offered visit condition remedy then largest_under (B.model book.now) visit condition remedy else 0) }
 {
     if book.offered(visit, condition, remedy) {
         greatest_under(book, visit, condition, remedy, row)
@@ -54,7 +54,7 @@ fn greatest_if_offered<B: Book>(
 
 // The largest under a remedy that is offered there.
 fn greatest_in<B: Book>(book: &B, visit: usize, condition: usize, row: &mut [Outcome; 32]) -> u64
-    ensures { result ≡ largest_in (model book.now) visit condition }
+    ensures { result ≡ largest_in (B.model book.now) visit condition }
 {
     let mut top: u64 = 0;
     for remedy in 0..book.remedies() {
@@ -65,7 +65,7 @@ fn greatest_in<B: Book>(book: &B, visit: usize, condition: usize, row: &mut [Out
 
 // The largest at a visit, in any condition.
 fn greatest_at<B: Book>(book: &B, visit: usize, row: &mut [Outcome; 32]) -> u64
-    ensures { result ≡ largest_at (model book.now) visit }
+    ensures { result ≡ largest_at (B.model book.now) visit }
 {
     let mut top: u64 = 0;
     for condition in 0..book.conditions() {
@@ -76,7 +76,7 @@ fn greatest_at<B: Book>(book: &B, visit: usize, row: &mut [Outcome; 32]) -> u64
 
 // The largest of 1, every worth, and every amount that may come at the visits, by size.
 fn peak<B: Book>(book: &B, visits: usize) -> u64
-    ensures { Peak (model book.now) visits result }
+    ensures { Peak (B.model book.now) visits result }
 {
     let mut outcomes = [Outcome::BLANK; 32];
     let mut top = greatest_worth(book).max(1);
@@ -104,7 +104,7 @@ fn within_limit(parts: u32, visits: usize, peak: u64) -> bool
 
 // Whether the numbers of the book stay small enough over the visits.
 pub(crate) fn fits<B: Book>(book: &B, visits: usize) -> bool
-    ensures { MatchBool result (Fits (model book.now) visits) (Fits (model book.now) visits → ⊥) }
+    ensures { MatchBool result (Fits (B.model book.now) visits) (Fits (B.model book.now) visits → ⊥) }
 {
     within_limit(book.parts(), visits, peak(book, visits))
 }

@@ -13,7 +13,7 @@ fn check_room<B: Book>(
     values: usize,
     remedies: usize,
 ) -> Result<usize, PlanRefusal>
-    ensures { RoomChecked (offers (model book.now)) visits values remedies result }
+    ensures { RoomChecked (offers (B.model book.now)) visits values remedies result }
 {
     if visits < 1 || visits > 48 {
         return Err(PlanRefusal::Visits);
@@ -28,7 +28,7 @@ fn check_room<B: Book>(
 
 // The shares and the number limit.
 fn check_numbers<B: Book>(book: &B, visits: usize) -> Result<(), PlanRefusal>
-    ensures { NumbersChecked (model book.now) visits result }
+    ensures { NumbersChecked (B.model book.now) visits result }
 {
     if let Some(place) = first_uneven(book, visits) {
         let (visit, condition, remedy) = place;
@@ -51,7 +51,7 @@ pub fn check_plan<B: Book>(
     values: usize,
     remedies: usize,
 ) -> Result<usize, PlanRefusal>
-    ensures { PlanChecked (model book.now) visits values remedies result }
+    ensures { PlanChecked (B.model book.now) visits values remedies result }
 {
     let filled = check_room(book, visits, values, remedies)?;
     if let Some(place) = first_stuck(book, visits) {
@@ -69,7 +69,7 @@ pub fn check_judgement<B: Book>(
     values: usize,
     remedies: &[u8],
 ) -> Result<usize, PlanRefusal>
-    ensures { JudgeChecked (model book.now) visits values remedies.now result }
+    ensures { JudgeChecked (B.model book.now) visits values remedies.now result }
 {
     let filled = check_room(book, visits, values, remedies.len())?;
     if let Some(place) = first_misnamed(book, visits, remedies) {

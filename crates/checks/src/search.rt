@@ -9,7 +9,7 @@ use model::row::Outcome;
 
 // Whether any remedy is offered there.
 fn any_offered<B: Book>(book: &B, visit: usize, condition: usize) -> bool
-    ensures { MatchBool result (SomeOffered (offers (model book.now)) visit condition) (Unoffered (offers (model book.now)) visit condition) }
+    ensures { MatchBool result (SomeOffered (offers (B.model book.now)) visit condition) (Unoffered (offers (B.model book.now)) visit condition) }
 {
     for remedy in 0..book.remedies() {
         if book.offered(visit, condition, remedy) {
@@ -21,7 +21,7 @@ fn any_offered<B: Book>(book: &B, visit: usize, condition: usize) -> bool
 
 // The first place where nothing is offered. Of visits that are alike only the first is searched.
 pub(crate) fn first_stuck<B: Book>(book: &B, visits: usize) -> Option<(usize, usize)>
-    ensures { MatchOption result (Open (offers (model book.now)) visits) (λ p. FirstStuck (offers (model book.now)) visits p.0 p.1) }
+    ensures { MatchOption result (Open (offers (B.model book.now)) visits) (λ p. FirstStuck (offers (B.model book.now)) visits p.0 p.1) }
 {
     let conditions = book.conditions();
     let mut place = None;
@@ -47,7 +47,7 @@ fn total_share<B: Book>(
     remedy: usize,
     row: &mut [Outcome; 32],
 ) -> u32
-    ensures { result ≡ weight (model book.now) visit condition remedy (model book.now).conditions }
+    ensures { result ≡ weight (B.model book.now) visit condition remedy (B.model book.now).conditions }
 {
     let count = book.row(visit, condition, remedy, row);
     let mut sum = 0;
@@ -59,7 +59,7 @@ fn total_share<B: Book>(
 
 // The first offered remedy whose shares do not add to the parts, with its place; again the first of alike visits.
 pub(crate) fn first_uneven<B: Book>(book: &B, visits: usize) -> Option<(usize, usize, usize)>
-    ensures { MatchOption result (Even (model book.now) visits) (λ p. FirstUneven (model book.now) visits p.0 p.1 p.2) }
+    ensures { MatchOption result (Even (B.model book.now) visits) (λ p. FirstUneven (B.model book.now) visits p.0 p.1 p.2) }
 {
     let conditions = book.conditions();
     let remedies = book.remedies();
@@ -90,8 +90,8 @@ pub(crate) fn first_misnamed<B: Book>(
     visits: usize,
     remedies: &[u8],
 ) -> Option<(usize, usize, usize)>
-    requires { visits * (model book.now).conditions ≤ length remedies.now }
-    ensures { MatchOption result (WellNamed (offers (model book.now)) remedies.now visits) (λ p. FirstMisnamed (offers (model book.now)) remedies.now visits p.0 p.1 p.2) }
+    requires { visits * (B.model book.now).conditions ≤ length remedies.now }
+    ensures { MatchOption result (WellNamed (offers (B.model book.now)) remedies.now visits) (λ p. FirstMisnamed (offers (B.model book.now)) remedies.now visits p.0 p.1 p.2) }
 {
     let conditions = book.conditions();
     let mut place = None;

@@ -20,9 +20,9 @@ pub fn policies_exist_where_offered()
 
 // What is best visit by visit, by a criterion that keeps the laws, is beaten by no policy.
 pub fn greedy_plans_are_unbeaten<C: Criterion>(by: &C)
-    ensures greedy { GreedyIsUnbeaten (ops by.now) (better by.now) }
-    ensures plan { PlanIsUnbeaten (ops by.now) (better by.now) }
-    ensures table { TableIsUnbeaten (ops by.now) (better by.now) }
+    ensures greedy { GreedyIsUnbeaten (C.ops by.now) (C.better by.now) }
+    ensures plan { PlanIsUnbeaten (C.ops by.now) (C.better by.now) }
+    ensures table { TableIsUnbeaten (C.ops by.now) (C.better by.now) }
 {}
 
 // A sum over courses takes every course once and nothing else.

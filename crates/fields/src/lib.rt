@@ -1,4 +1,6 @@
 // Lines of tab-separated fields: a letter first, then numbers.
+#![tactic(auto)]
+
 pub mod faults;
 pub mod laws;
 pub mod lines;

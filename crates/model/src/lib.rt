@@ -1,4 +1,6 @@
 // What planning asks of a book.
+#![tactic(auto)]
+
 pub mod book;
 pub mod row;
 

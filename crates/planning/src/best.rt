@@ -14,7 +14,7 @@ fn preferred<C: Criterion>(
     remedy: u8,
     value: C::Value,
 ) -> (u8, C::Value)
-    ensures { result ≡ kept_of (ops by.now) found (remedy, value) }
+    ensures { result ≡ kept_of (C.ops by.now) found (remedy, value) }
 {
     match found {
         Some((held, top)) => {
@@ -38,8 +38,8 @@ pub(crate) fn best<B: Book, C: Criterion>(
     later: &[C::Value],
     row: &mut [Outcome; 32],
 ) -> Option<(u8, C::Value)>
-    requires { length later.now ≡ (model book.now).conditions }
-    ensures { MatchOption result (NoneBelow (model book.now) visit condition (model book.now).remedies) (λ p. Best (ops by.now) (model book.now) visit left condition (at (ops by.now) later.now) (model book.now).remedies p.0 p.1) }
+    requires { length later.now ≡ (B.model book.now).conditions }
+    ensures { MatchOption result (NoneBelow (B.model book.now) visit condition (B.model book.now).remedies) (λ p. Best (C.ops by.now) (B.model book.now) visit left condition (at (C.ops by.now) later.now) (B.model book.now).remedies p.0 p.1) }
 {
     let mut found: Option<(u8, C::Value)> = None;
     for remedy in 0..book.remedies() {

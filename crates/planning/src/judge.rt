@@ -24,9 +24,9 @@ fn judge_row<B: Book, C: Criterion>(
     outcomes: &mut [Outcome; 32],
 )
     requires short { row < 48 }
-    requires room { (row + 2) * (model book.now).conditions ≤ length values.old }
-    requires place { (row + 1) * (model book.now).conditions ≤ length remedies.now }
-    ensures { RowWritten (ops by.now) (model book.now) (Valued (ops by.now) (model book.now)) row left values.old values.new remedies.now remedies.now }
+    requires room { (row + 2) * (B.model book.now).conditions ≤ length values.old }
+    requires place { (row + 1) * (B.model book.now).conditions ≤ length remedies.now }
+    ensures { RowWritten (C.ops by.now) (B.model book.now) (Valued (C.ops by.now) (B.model book.now)) row left values.old values.new remedies.now remedies.now }
 {
     let conditions = book.conditions();
     let visit = visit_of(row);
@@ -55,8 +55,8 @@ fn fill_values<B: Book, C: Criterion>(
     remedies: &[u8],
     values: &mut [C::Value],
 )
-    requires { InOrder (offers (model book.now)) visits (length values.old) (length remedies.now) }
-    ensures { RowsWritten (ops by.now) (model book.now) (Valued (ops by.now) (model book.now)) visits values.old values.new remedies.now remedies.now }
+    requires { InOrder (offers (B.model book.now)) visits (length values.old) (length remedies.now) }
+    ensures { RowsWritten (C.ops by.now) (B.model book.now) (Valued (C.ops by.now) (B.model book.now)) visits values.old values.new remedies.now remedies.now }
 {
     let mut outcomes = [Outcome::BLANK; 32];
     fill_closing(book, by, visits, values);
@@ -73,7 +73,7 @@ pub fn judge<B: Book, C: Criterion>(
     remedies: &[u8],
     values: &mut [C::Value],
 ) -> Result<usize, PlanRefusal>
-    ensures { JudgeAnswers (ops by.now) (model book.now) visits result values.old values.new remedies.now }
+    ensures { JudgeAnswers (C.ops by.now) (B.model book.now) visits result values.old values.new remedies.now }
 {
     let filled = check_judgement(book, visits, values.len(), remedies)?;
     fill_values(book, by, visits, remedies, values);

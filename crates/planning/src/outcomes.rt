@@ -17,8 +17,8 @@ fn account<B: Book, C: Criterion>(
     later: &[C::Value],
     row: &mut [Outcome; 32],
 ) -> C::Account
-    requires { length later.now ≡ (model book.now).conditions }
-    ensures { result ≡ entered (ops by.now) (model book.now) visit left condition remedy (at (ops by.now) later.now) (model book.now).conditions }
+    requires { length later.now ≡ (B.model book.now).conditions }
+    ensures { result ≡ entered (C.ops by.now) (B.model book.now) visit left condition remedy (at (C.ops by.now) later.now) (B.model book.now).conditions }
 {
     let count = book.row(visit, condition, remedy, row);
     let parts = book.parts();
@@ -41,8 +41,8 @@ pub(crate) fn value_under<B: Book, C: Criterion>(
     later: &[C::Value],
     row: &mut [Outcome; 32],
 ) -> C::Value
-    requires { length later.now ≡ (model book.now).conditions }
-    ensures { result ≡ remedied (ops by.now) (model book.now) visit left condition remedy (at (ops by.now) later.now) }
+    requires { length later.now ≡ (B.model book.now).conditions }
+    ensures { result ≡ remedied (C.ops by.now) (B.model book.now) visit left condition remedy (at (C.ops by.now) later.now) }
 {
     let sum = account(book, by, visit, left, condition, remedy, later, row);
     by.close(book.parts(), sum)

@@ -25,10 +25,10 @@ fn fill_row<B: Book, C: Criterion>(
     outcomes: &mut [Outcome; 32],
 )
     requires short { row < 48 }
-    requires room { (row + 2) * (model book.now).conditions ≤ length values.old }
-    requires place { (row + 1) * (model book.now).conditions ≤ length remedies.old }
-    requires offers { (s : ℕ) → s < (model book.now).conditions → SomeOffered (offers (model book.now)) (visit_after row) s }
-    ensures { RowWritten (ops by.now) (model book.now) (Chosen (ops by.now) (model book.now)) row left values.old values.new remedies.old remedies.new }
+    requires room { (row + 2) * (B.model book.now).conditions ≤ length values.old }
+    requires place { (row + 1) * (B.model book.now).conditions ≤ length remedies.old }
+    requires offers { (s : ℕ) → s < (B.model book.now).conditions → SomeOffered (offers (B.model book.now)) (visit_after row) s }
+    ensures { RowWritten (C.ops by.now) (B.model book.now) (Chosen (C.ops by.now) (B.model book.now)) row left values.old values.new remedies.old remedies.new }
 {
     let conditions = book.conditions();
     let visit = visit_of(row);
@@ -58,9 +58,9 @@ fn fill<B: Book, C: Criterion>(
     values: &mut [C::Value],
     remedies: &mut [u8],
 )
-    requires order { InOrder (offers (model book.now)) visits (length values.old) (length remedies.old) }
-    requires offers { Open (offers (model book.now)) visits }
-    ensures { RowsWritten (ops by.now) (model book.now) (Chosen (ops by.now) (model book.now)) visits values.old values.new remedies.old remedies.new }
+    requires order { InOrder (offers (B.model book.now)) visits (length values.old) (length remedies.old) }
+    requires offers { Open (offers (B.model book.now)) visits }
+    ensures { RowsWritten (C.ops by.now) (B.model book.now) (Chosen (C.ops by.now) (B.model book.now)) visits values.old values.new remedies.old remedies.new }
 {
     let mut outcomes = [Outcome::BLANK; 32];
     fill_closing(book, by, visits, values);
@@ -77,8 +77,8 @@ pub fn plan<B: Book, C: Criterion>(
     values: &mut [C::Value],
     remedies: &mut [u8],
 ) -> Result<usize, PlanRefusal>
-    ensures answers { PlanAnswers (ops by.now) (model book.now) visits result values.old values.new remedies.old remedies.new }
-    ensures stuck { StuckExactly (model book.now) visits (length values.old) (length remedies.old) result }
+    ensures answers { PlanAnswers (C.ops by.now) (B.model book.now) visits result values.old values.new remedies.old remedies.new }
+    ensures stuck { StuckExactly (B.model book.now) visits (length values.old) (length remedies.old) result }
 {
     let filled = check_plan(book, visits, values.len(), remedies.len())?;
     fill(book, by, visits, values, remedies);

@@ -22,8 +22,8 @@ pub(crate) fn fill_closing<B: Book, C: Criterion>(
     visits: usize,
     values: &mut [C::Value],
 )
-    requires { (visits + 1) * (model book.now).conditions ≤ length values.old }
-    ensures { ClosingWritten (ops by.now) (model book.now) visits values.old values.new }
+    requires { (visits + 1) * (B.model book.now).conditions ≤ length values.old }
+    ensures { ClosingWritten (C.ops by.now) (B.model book.now) visits values.old values.new }
 {
     let conditions = book.conditions();
     let start = visits * conditions;

@@ -1,4 +1,6 @@
 // Reads a question and a book file from standard input, and prints the plan or the first fault.
+#![tactic(auto)]
+
 use quoting::quote::{LONGEST, quote};
 use quoting::tables::Tables;
 use quoting::text::text;

@@ -25,7 +25,7 @@ fn planned<B: Book>(
     values: &mut [i64],
     remedies: &mut [u8],
 ) -> Result<usize, PlanRefusal>
-    ensures { PlanAnswers (criterion asked.by) (model book.now) asked.visits result values.old values.new remedies.old remedies.new }
+    ensures { PlanAnswers (criterion asked.by) (B.model book.now) asked.visits result values.old values.new remedies.old remedies.new }
 {
     match asked.by {
         By::Mean => plan_mean(book, asked.visits, values, remedies),

@@ -11,7 +11,7 @@ use Rattle.sheets.specs.Laws.{BlankSheetIsTheBook}
 
 is_inside : (o : Offers) (n s r j : ℕ) → Inside o n s r → j < o.conditions → inside o n s r j ≡ true
 is_inside o n s r j i l =
-    and_from _ _ (and_from _ _ (and_from _ _ (and_from _ _ (le-leb 1 n i.first-visit) (le-leb n 48 i.last-visit)) (lt-ltb s _ i.some-condition)) (lt-ltb r _ i.some-remedy)) (lt-ltb j _ l)
+    and_from _ _ (and_from _ _ (and_from _ _ (and_from _ _ (le-leb 1 n i.first_visit) (le-leb n 48 i.last_visit)) (lt-ltb s _ i.some_condition)) (lt-ltb r _ i.some_remedy)) (lt-ltb j _ l)
 
 and_true : (b : Bool) → (b && true) ≡ b
 and_true true = refl

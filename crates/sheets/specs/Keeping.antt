@@ -30,7 +30,7 @@ taken true x y h = tt
 taken false x y h = absurd (h refl)
 
 again : (m : Model) (ns : List Note) (n s r : ℕ) → Inside (offers m) n s r → Inside (offers (noted m ns)) n s r
-again m ns n s r i = record { first_visit = i.first-visit; last_visit = i.last-visit; some_condition = i.some-condition; some_remedy = i.some-remedy }
+again m ns n s r i = record { first_visit = i.first_visit; last_visit = i.last_visit; some_condition = i.some_condition; some_remedy = i.some_remedy }
 
 pub noted_lawful : (m : Model) (ns : List Note) → Lawful m → Lawful (noted m ns)
 noted_lawful m ns lawful = record {

@@ -1,4 +1,6 @@
 // Notes laid over a book: bars, surcharges, and the sheet that carries them.
+#![tactic(auto)]
+
 pub mod note;
 pub mod notes;
 pub mod refusal;

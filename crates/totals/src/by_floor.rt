@@ -17,10 +17,10 @@ pub fn plan_floor<B: Book>(
     values: &mut [i64],
     remedies: &mut [u8],
 ) -> Result<usize, PlanRefusal>
-    ensures answers { PlanAnswers floor (model book.now) visits result values.old values.new remedies.old remedies.new }
-    ensures stuck { StuckExactly (model book.now) visits (length values.old) (length remedies.old) result }
-    ensures totals { OnOk result (LeastTotals (model book.now) visits remedies.new values.new) }
-    ensures greatest { OnOk result (GreatestLeast (model book.now) visits remedies.new) }
+    ensures answers { PlanAnswers floor (B.model book.now) visits result values.old values.new remedies.old remedies.new }
+    ensures stuck { StuckExactly (B.model book.now) visits (length values.old) (length remedies.old) result }
+    ensures totals { OnOk result (LeastTotals (B.model book.now) visits remedies.new values.new) }
+    ensures greatest { OnOk result (GreatestLeast (B.model book.now) visits remedies.new) }
 {
     plan(book, &Floor, visits, values, remedies)
 }
@@ -32,8 +32,8 @@ pub fn judge_floor<B: Book>(
     remedies: &[u8],
     values: &mut [i64],
 ) -> Result<usize, PlanRefusal>
-    ensures answers { JudgeAnswers floor (model book.now) visits result values.old values.new remedies.now }
-    ensures totals { OnOk result (LeastTotals (model book.now) visits remedies.now values.new) }
+    ensures answers { JudgeAnswers floor (B.model book.now) visits result values.old values.new remedies.now }
+    ensures totals { OnOk result (LeastTotals (B.model book.now) visits remedies.now values.new) }
 {
     judge(book, &Floor, visits, remedies, values)
 }

@@ -17,10 +17,10 @@ pub fn plan_mean<B: Book>(
     values: &mut [i64],
     remedies: &mut [u8],
 ) -> Result<usize, PlanRefusal>
-    ensures answers { PlanAnswers mean (model book.now) visits result values.old values.new remedies.old remedies.new }
-    ensures stuck { StuckExactly (model book.now) visits (length values.old) (length remedies.old) result }
-    ensures totals { OnOk result (ExpectedTotals (model book.now) visits remedies.new values.new) }
-    ensures greatest { OnOk result (GreatestExpected (model book.now) visits remedies.new) }
+    ensures answers { PlanAnswers mean (B.model book.now) visits result values.old values.new remedies.old remedies.new }
+    ensures stuck { StuckExactly (B.model book.now) visits (length values.old) (length remedies.old) result }
+    ensures totals { OnOk result (ExpectedTotals (B.model book.now) visits remedies.new values.new) }
+    ensures greatest { OnOk result (GreatestExpected (B.model book.now) visits remedies.new) }
 {
     plan(book, &Mean::of(book.parts()), visits, values, remedies)
 }
@@ -32,8 +32,8 @@ pub fn judge_mean<B: Book>(
     remedies: &[u8],
     values: &mut [i64],
 ) -> Result<usize, PlanRefusal>
-    ensures answers { JudgeAnswers mean (model book.now) visits result values.old values.new remedies.now }
-    ensures totals { OnOk result (ExpectedTotals (model book.now) visits remedies.now values.new) }
+    ensures answers { JudgeAnswers mean (B.model book.now) visits result values.old values.new remedies.now }
+    ensures totals { OnOk result (ExpectedTotals (B.model book.now) visits remedies.now values.new) }
 {
     judge(book, &Mean::of(book.parts()), visits, remedies, values)
 }

@@ -53,7 +53,7 @@ switch_lawful = record {
   share_inside = λ n s r j l.
       let a = both (inside n s r) (j == r) (counted _ l) in
       let w = within n s r a.0 in
-      (w, subst (λ (x : ℕ). x < 2) (sym (eqb-true j r (is_true _ a.1))) w.some-remedy);
+      (w, subst (λ (x : ℕ). x < 2) (sym (eqb-true j r (is_true _ a.1))) w.some_remedy);
   amount_inside = λ n s r j e. absurd (e refl);
   worth_inside = λ s e. let same : s ≡ 1 = eqb-true s 1 (is_true _ (worthy _ e)) in omega arith;
 }

@@ -1,4 +1,6 @@
 // A small book and two small criteria, planned by the same text as any other.
+#![tactic(auto)]
+
 pub mod outlook;
 pub mod switch;
 #[cfg(test)]

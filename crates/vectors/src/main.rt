@@ -1,5 +1,7 @@
 // Runs `quote` over stored cases. Standard input names them, a line each; the case NAME is the input
 // NAME.in and the expected output NAME.out. Prints the name of each case that differs, and the count.
+#![tactic(auto)]
+
 use quoting::quote::quote;
 use quoting::tables::Tables;
 use quoting::text::text;

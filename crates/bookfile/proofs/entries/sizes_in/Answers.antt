@@ -11,45 +11,45 @@ use Rattle.bookfile.proofs.Cutting.{at_next, at_field, Fails, failed, passed, fr
 use Rattle.bookfile.proofs.Cutting.Fails.{here, later}
 use Rattle.bookfile.proofs.entries.sizes_in.Goals as goal
 
-pub returns-in-err-conditions : goal.returns-in-err-conditions
-returns-in-err-conditions c =
-    let p = err_from_is_err_and c.from-residual.result c.from-residual.ensures.1 in
+pub returns-in_err-conditions : goal.returns-in_err-conditions
+returns-in_err-conditions c =
+    let p = err_from_is_err_and c.from_residual.result c.from_residual.ensures.1 in
     let k = c.args.fields.line in
-    let x = reported_field c.in-err-conditions.field-0.0 in
+    let x = reported_field c.in_err-conditions.field-0.0 in
     rw (p.1, p.2) (record {
       read = λ fs l q n. failed k 2 (size_form) fs x (three_fields (λ hs. Left c.args.fields.rest.now hs → Fails k 2 (size_form) hs x)
-          (λ f g h l'. let a = from_second l' q in here (at_field a c.cut.ensures.field (from_to 1 32) c.in-err-conditions.ensures.read)) fs n l);
+          (λ f g h l'. let a = from_second l' q in here (at_field a c.cut.ensures.field (from_to 1 32) c.in_err-conditions.ensures.read)) fs n l);
       small = tt;
     })
 
-pub returns-in-err-remedies : goal.returns-in-err-remedies
-returns-in-err-remedies c =
-    let p = err_from_is_err_and c.from-residual-in-err-remedies.result c.from-residual-in-err-remedies.ensures.1 in
+pub returns-in_err-remedies : goal.returns-in_err-remedies
+returns-in_err-remedies c =
+    let p = err_from_is_err_and c.from_residual-in_err-remedies.result c.from_residual-in_err-remedies.ensures.1 in
     let k = c.args.fields.line in
-    let x = reported_field c.in-err-remedies.field-0.0 in
+    let x = reported_field c.in_err-remedies.field-0.0 in
     rw (p.1, p.2) (record {
       read = λ fs l q n. failed k 2 (size_form) fs x (three_fields (λ hs. Left c.args.fields.rest.now hs → Fails k 2 (size_form) hs x)
-          (λ f g h l'. let a = from_second l' q in let b = at_next a c.cut.ensures.after (omega arith) in later (at_field a c.cut.ensures.field (from_to 1 32) c.in-ok-conditions.ensures.read) (here (at_field b c.cut-2.ensures.field (from_to 1 8) c.in-err-remedies.ensures.read))) fs n l);
+          (λ f g h l'. let a = from_second l' q in let b = at_next a c.cut.ensures.after (omega arith) in later (at_field a c.cut.ensures.field (from_to 1 32) c.in_ok-conditions.ensures.read) (here (at_field b c.cut-2.ensures.field (from_to 1 8) c.in_err-remedies.ensures.read))) fs n l);
       small = tt;
     })
 
-pub returns-in-err-parts : goal.returns-in-err-parts
-returns-in-err-parts c =
-    let p = err_from_is_err_and c.from-residual-in-err-parts.result c.from-residual-in-err-parts.ensures.1 in
+pub returns-in_err-parts : goal.returns-in_err-parts
+returns-in_err-parts c =
+    let p = err_from_is_err_and c.from_residual-in_err-parts.result c.from_residual-in_err-parts.ensures.1 in
     let k = c.args.fields.line in
-    let x = reported_field c.in-err-parts.field-0.0 in
+    let x = reported_field c.in_err-parts.field-0.0 in
     rw (p.1, p.2) (record {
       read = λ fs l q n. failed k 2 (size_form) fs x (three_fields (λ hs. Left c.args.fields.rest.now hs → Fails k 2 (size_form) hs x)
-          (λ f g h l'. let a = from_second l' q in let b = at_next a c.cut.ensures.after (omega arith) in let d = at_next b c.cut-2.ensures.after (omega arith) in later (at_field a c.cut.ensures.field (from_to 1 32) c.in-ok-conditions.ensures.read) (later (at_field b c.cut-2.ensures.field (from_to 1 8) c.in-ok-remedies.ensures.read) (here (at_field d c.cut-3.ensures.field (from_to 1 1000) c.in-err-parts.ensures.read)))) fs n l);
+          (λ f g h l'. let a = from_second l' q in let b = at_next a c.cut.ensures.after (omega arith) in let d = at_next b c.cut-2.ensures.after (omega arith) in later (at_field a c.cut.ensures.field (from_to 1 32) c.in_ok-conditions.ensures.read) (later (at_field b c.cut-2.ensures.field (from_to 1 8) c.in_ok-remedies.ensures.read) (here (at_field d c.cut-3.ensures.field (from_to 1 1000) c.in_err-parts.ensures.read)))) fs n l);
       small = tt;
     })
 
 pub returns : goal.returns
 returns c =
     let k = c.args.fields.line in
-    let z : Sizes = record { conditions = c.in-ok-conditions.field-0; remedies = c.in-ok-remedies.field-0; parts = c.in-ok-parts.parts } in
+    let z : Sizes = record { conditions = c.in_ok-conditions.field-0; remedies = c.in_ok-remedies.field-0; parts = c.in_ok-parts.parts } in
     record {
       read = λ fs l q n. passed k 2 (size_form) fs (size_values z) (three_fields (λ hs. Left c.args.fields.rest.now hs → Passes k 2 (size_form) hs (size_values z))
-          (λ f g h l'. let a = from_second l' q in let b = at_next a c.cut.ensures.after (omega arith) in let d = at_next b c.cut-2.ensures.after (omega arith) in one (at_field a c.cut.ensures.field (from_to 1 32) c.in-ok-conditions.ensures.read) (one (at_field b c.cut-2.ensures.field (from_to 1 8) c.in-ok-remedies.ensures.read) (one (at_field d c.cut-3.ensures.field (from_to 1 1000) c.in-ok-parts.ensures.read) none))) fs n l);
+          (λ f g h l'. let a = from_second l' q in let b = at_next a c.cut.ensures.after (omega arith) in let d = at_next b c.cut-2.ensures.after (omega arith) in one (at_field a c.cut.ensures.field (from_to 1 32) c.in_ok-conditions.ensures.read) (one (at_field b c.cut-2.ensures.field (from_to 1 8) c.in_ok-remedies.ensures.read) (one (at_field d c.cut-3.ensures.field (from_to 1 1000) c.in_ok-parts.ensures.read) none))) fs n l);
       small = search rules;
     }

@@ -8,4 +8,4 @@ loop-remedy-preserved g c =
     let m = g.B.Book.model c.args.book.now in
     let n = c.args.visit in
     let s = c.args.condition in
-    c.max-top.ensures ∙ most_more c.loop-remedy.remedy (λ r. cond (m.offered n s r) (largest_under m n s r) 0) c.loop-remedy.top c.greatest-if-offered.result c.loop-remedy.invariant c.greatest-if-offered.ensures
+    c.max-top.ensures ∙ most_more c.loop-remedy.remedy (λ r. cond (m.offered n s r) (largest_under m n s r) 0) c.loop-remedy.top c.greatest_if_offered.result c.loop-remedy.invariant c.greatest_if_offered.ensures

@@ -9,7 +9,7 @@ loop-outcome-preserved g c =
     let xs = take c.row-count.result c.row-count.new.row in
     let i = c.loop-outcome.outcome-index in
     let fits : SFits w64 (get_or xs i none_yet).amount = search rules in
-    c.max-top.ensures ∙ size_more xs i c.loop-outcome.top c.unsigned-abs.result c.loop-outcome-test.true c.loop-outcome.invariant (c.unsigned-abs.ensures.value ∙ ap nat_abs (to_z-of_z w64 _ fits))
+    c.max-top.ensures ∙ size_more xs i c.loop-outcome.top c.unsigned_abs.result c.loop-outcome-test.true c.loop-outcome.invariant (c.unsigned_abs.ensures.value ∙ ap nat_abs (to_z-of_z w64 _ fits))
 
 pub returns : goal.returns
 returns g c =

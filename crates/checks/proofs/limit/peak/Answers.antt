@@ -8,8 +8,8 @@ use Rattle.checks.proofs.limit.peak.Goals as goal
 pub loop-row-preserved : goal.loop-row-preserved
 loop-row-preserved g c =
     let m = g.B.Book.model c.args.book.now in
-    let v : c.visit-of-visit.result ≡ visit_after c.loop-row.row = omega (arith, c.visit-of-visit.ensures, c.ranges.visits.fits) in
-    c.max-top-in-loop-row.ensures ∙ greatest_alike m c.args.visits c.loop-row.row c.visit-of-visit.result c.alike-until-row.result c.loop-row.top c.greatest-at.result c.loop-row-test.true v c.alike-until-row.ensures.0 c.alike-until-row.ensures.1 c.loop-row.invariant c.greatest-at.ensures
+    let v : c.visit_of-visit.result ≡ visit_after c.loop-row.row = omega (arith, c.visit_of-visit.ensures, c.ranges.visits.fits) in
+    c.max-top-in-loop-row.ensures ∙ greatest_alike m c.args.visits c.loop-row.row c.visit_of-visit.result c.alike_until-row.result c.loop-row.top c.greatest_at.result c.loop-row-test.true v c.alike_until-row.ensures.0 c.alike_until-row.ensures.1 c.loop-row.invariant c.greatest_at.ensures
 
 pub returns : goal.returns
 returns g c =

@@ -9,4 +9,4 @@ loop-done-init c =
     product_none c.args.parts c.args.visits c.args.peak c.from.result a b c.from.ensures
 
 pub loop-done-preserved : goal.loop-done-preserved
-loop-done-preserved c = product_more c.args.parts _ c.args.visits c.args.peak c.loop-done.done c.loop-done.product _ c.from-in-loop-done.ensures c.loop-done.invariant c.saturating-mul-product.ensures
+loop-done-preserved c = product_more c.args.parts _ c.args.visits c.args.peak c.loop-done.done c.loop-done.product _ c.from-in-loop-done.ensures c.loop-done.invariant c.saturating_mul-product.ensures

@@ -7,7 +7,7 @@ use Rattle.checks.proofs.search.first_uneven.Goals as goal
 pub loop-condition-preserved : goal.loop-condition-preserved
 loop-condition-preserved g c =
     let m = g.B.Book.model c.args.book.now in
-    let n = c.visit-of-visit.result in
+    let n = c.visit_of-visit.result in
     let s = c.loop-condition.condition in
     let here : EvenIn m n s = λ r t.
     let inside = ((g.B.Book.lawful c.args.book.now).offered_inside n s r t).some_remedy in
@@ -18,8 +18,8 @@ loop-condition-preserved g c =
 pub places-preserved : goal.places-preserved
 places-preserved g c =
     let m = g.B.Book.model c.args.book.now in
-    let n = c.visit-of-visit.result in
+    let n = c.visit_of-visit.result in
     let s = c.loop-condition.condition in
-    let some : 1 ≤ n = omega (arith, c.visit-of-visit.ensures) in
+    let some : 1 ≤ n = omega (arith, c.visit_of-visit.ensures) in
     let all : m.conditions ≤ s = omega (arith, c.conditions-conditions.ensures, c.loop-condition-test.false) in
-    (c.loop-condition.invariant.0, clear_alike (offers m) c.args.visits (EvenIn m) n c.alike-until-row.result s some (λ k j a b. even_alike m n k (c.alike-until-row.ensures.1 k a b) j) all c.loop-condition.invariant.1)
+    (c.loop-condition.invariant.0, clear_alike (offers m) c.args.visits (EvenIn m) n c.alike_until-row.result s some (λ k j a b. even_alike m n k (c.alike_until-row.ensures.1 k a b) j) all c.loop-condition.invariant.1)

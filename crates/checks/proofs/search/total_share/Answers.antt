@@ -3,8 +3,8 @@ use Rattle.std.proofs.lemmas.List.{take_all}
 use Rattle.checks.proofs.Rows.{none_yet, shares_of, shares_more, short_row, shares_fit, shares_all}
 use Rattle.checks.proofs.search.total_share.Goals as goal
 
-pub overflow-add-sum : goal.overflow-add-sum
-overflow-add-sum g c =
+pub overflow_add-sum : goal.overflow_add-sum
+overflow_add-sum g c =
     let m = g.B.Book.model c.args.book.now in
     let xs = take c.row-count.result c.row-count.new.row in
     let i = c.loop-outcome.outcome-index in

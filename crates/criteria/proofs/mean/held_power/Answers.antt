@@ -29,9 +29,9 @@ loop-done-init c = ap (λ (n : ℕ). hold (pos n)) (sym (pow-zero c.args.base))
 pub loop-done-preserved : goal.loop-done-preserved
 loop-done-preserved c =
     let low : 1 ≤ c.args.base = omega arith in
-    let fits : SFits w64 c.saturating-mul-power.result = search rules in
+    let fits : SFits w64 c.saturating_mul-power.result = search rules in
     let factor : SFits w64 c.from.result = search rules in
-    let e = c.saturating-mul-power.ensures in
+    let e = c.saturating_mul-power.ensures in
     to_z-of_z w64 _ fits
     ∙ rw (to_z-of_z w64 c.from.result factor) at e
     ∙ ap (λ (z : ℤ). hold (z *ℤ c.from.result)) c.loop-done.invariant

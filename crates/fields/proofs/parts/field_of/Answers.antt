@@ -8,5 +8,5 @@ returns-in-len1 c =
     let one : length c.args.part.now ≡ 1 = search rules in
     record {
       whole = ap (λ (x : ℕ). x ∷ []) c.from.ensures ∙ alone c.args.part.now one;
-      told = ap is_ascii_alphabetic c.from.ensures ∙ sym c.if-is-ascii-alphabetic.ensures.value;
+      told = ap is_ascii_alphabetic c.from.ensures ∙ sym c.if-is_ascii_alphabetic.ensures.value;
     }

@@ -14,7 +14,7 @@ loop-remedy-preserved g c =
     elim c.if-offered.branch [
       | then-offered w ↦
           subst (S (n + 1)) (sym (w.found-is ∙ ap Some w.preferred.ensures))
-          (state_more o m _ _ _ later (g.C.Criterion.laws c.args.by.now) n _ c.loop-remedy.found (from_true (sym w.if-offered.ensures)) w.value-under-value.ensures c.loop-remedy.invariant)
+          (state_more o m _ _ _ later (g.C.Criterion.laws c.args.by.now) n _ c.loop-remedy.found (from_true (sym w.if-offered.ensures)) w.value_under-value.ensures c.loop-remedy.invariant)
       | else-offered w ↦
           subst (S (n + 1)) (sym w.found-is)
           (state_skip o m _ _ _ later n c.loop-remedy.found (sym w.if-offered.ensures) c.loop-remedy.invariant)

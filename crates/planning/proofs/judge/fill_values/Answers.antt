@@ -7,10 +7,10 @@ pub loop-row-init : goal.loop-row-init
 loop-row-init g c =
     let o = g.C.Criterion.ops c.args.by.now in
     let m = g.B.Book.model c.args.book.now in
-    (filled_none o m (Valued o m) c.args.visits _ _ c.fill-closing.ensures.closed, refl)
+    (filled_none o m (Valued o m) c.args.visits _ _ c.fill_closing.ensures.closed, refl)
 
-pub judge-row-requires : goal.judge-row-requires
-judge-row-requires g c =
+pub judge_row-requires : goal.judge_row-requires
+judge_row-requires g c =
     let k : ℕ = c.loop-row.row - 1 in
     let b : c.loop-row.row ≤ c.args.visits = c.loop-row.auto.row in
     let n = (g.B.Book.model c.args.book.now).conditions in
@@ -18,7 +18,7 @@ judge-row-requires g c =
     let on : k + 1 ≤ c.args.visits = omega arith in
     record {
       short = omega (arith, c.requires.few);
-      room = omega (arith, mul-le-mul_right n up, c.requires.values_room, c.loop-row.auto.values, c.fill-closing.auto.values);
+      room = omega (arith, mul-le-mul_right n up, c.requires.values_room, c.loop-row.auto.values, c.fill_closing.auto.values);
       place = omega (arith, mul-le-mul_right n on, c.requires.remedies_room);
     }
 
@@ -31,7 +31,7 @@ loop-row-preserved g c =
     let back : c.loop-row.row ≡ k + 1 = omega arith in
     let low : k < c.args.visits = omega arith in
     let up : k + 1 ≤ c.args.visits + 1 = omega arith in
-    let e = c.judge-row.ensures in (
+    let e = c.judge_row.ensures in (
       filled_more o m (Valued o m) c.args.visits k c.loop-row.values _ c.args.remedies.now c.args.remedies.now low e.filled e.values refl
           (subst (λ x. Filled o m (Valued o m) c.args.visits x c.loop-row.values c.args.remedies.now) back c.loop-row.invariant.0),
       kept_drop ((k + 1) * m.conditions) _ _ _ (mul-le-mul_right m.conditions up) e.values ∙ c.loop-row.invariant.1,
@@ -44,6 +44,6 @@ returns g c =
     let zero_row : c.loop-row.row ≡ 0 = omega arith in
     record {
       filled = subst (λ x. Filled o m (Valued o m) c.args.visits x c.loop-row.values c.args.remedies.now) zero_row c.loop-row.invariant.0;
-      values = c.loop-row.invariant.1 ∙ c.fill-closing.ensures.values;
+      values = c.loop-row.invariant.1 ∙ c.fill_closing.ensures.values;
       remedies = refl;
     }

@@ -8,10 +8,10 @@ pub loop-row-init : goal.loop-row-init
 loop-row-init g c =
     let o = g.C.Criterion.ops c.args.by.now in
     let m = g.B.Book.model c.args.book.now in
-    (filled_none o m (Chosen o m) c.args.visits _ _ c.fill-closing.ensures.closed, refl, refl)
+    (filled_none o m (Chosen o m) c.args.visits _ _ c.fill_closing.ensures.closed, refl, refl)
 
-pub fill-row-requires : goal.fill-row-requires
-fill-row-requires g c =
+pub fill_row-requires : goal.fill_row-requires
+fill_row-requires g c =
     let k : ℕ = c.loop-row.row - 1 in
     let b : c.loop-row.row ≤ c.args.visits = c.loop-row.auto.row in
     let n = (g.B.Book.model c.args.book.now).conditions in
@@ -19,7 +19,7 @@ fill-row-requires g c =
     let on : k + 1 ≤ c.args.visits = omega arith in
     record {
       short = omega (arith, c.requires.order.few);
-      room = omega (arith, mul-le-mul_right n up, c.requires.order.values_room, c.loop-row.auto.values, c.fill-closing.auto.values);
+      room = omega (arith, mul-le-mul_right n up, c.requires.order.values_room, c.loop-row.auto.values, c.fill_closing.auto.values);
       place = omega (arith, mul-le-mul_right n on, c.requires.order.remedies_room, c.loop-row.auto.remedies);
       offers = λ s h. c.requires.offers (visit_after k) s (record { from = omega arith; to = omega arith; condition = h });
     }
@@ -34,7 +34,7 @@ loop-row-preserved g c =
     let low : k < c.args.visits = omega arith in
     let on : k + 1 ≤ c.args.visits = omega arith in
     let up : k + 1 ≤ c.args.visits + 1 = omega arith in
-    let e = c.fill-row.ensures in (
+    let e = c.fill_row.ensures in (
       filled_more o m (Chosen o m) c.args.visits k c.loop-row.values _ c.loop-row.remedies _ low e.filled e.values e.remedies
           (subst (λ x. Filled o m (Chosen o m) c.args.visits x c.loop-row.values c.loop-row.remedies) back c.loop-row.invariant.0),
       kept_drop ((k + 1) * m.conditions) _ _ _ (mul-le-mul_right m.conditions up) e.values ∙ c.loop-row.invariant.1,
@@ -48,6 +48,6 @@ returns g c =
     let zero_row : c.loop-row.row ≡ 0 = omega arith in
     record {
       filled = subst (λ x. Filled o m (Chosen o m) c.args.visits x c.loop-row.values c.loop-row.remedies) zero_row c.loop-row.invariant.0;
-      values = c.loop-row.invariant.1 ∙ c.fill-closing.ensures.values;
+      values = c.loop-row.invariant.1 ∙ c.fill_closing.ensures.values;
       remedies = c.loop-row.invariant.2;
     }

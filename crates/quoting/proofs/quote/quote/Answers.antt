@@ -1,9 +1,9 @@
 use Rattle.std.proofs.Common.{ℕ, ◌≤◌, sym, subst, mul-le-mul}
 use Rattle.quoting.proofs.quote.quote.Goals as goal
 
-pub invariant-of-result : goal.invariant-of-result
-invariant-of-result c =
-    let found = c.in-ok-found.ensures in
-    let book = c.in-ok-remake.ensures.1 in
+pub invariant_of-result : goal.invariant_of-result
+invariant_of-result c =
+    let found = c.in_ok-found.ensures in
+    let book = c.in_ok-remake.ensures.1 in
     let few = subst (λ (x : ℕ). x ≤ 32) (sym book.conditions) found.few_conditions in
-    (found.some_condition, (subst (λ (n : ℕ). n ≤ 1536) (sym c.in-ok-entries.ensures.0) (mul-le-mul c.in-ok-asked.ensures.1 few), tt))
+    (found.some_condition, (subst (λ (n : ℕ). n ≤ 1536) (sym c.in_ok-entries.ensures.0) (mul-le-mul c.in_ok-asked.ensures.1 few), tt))

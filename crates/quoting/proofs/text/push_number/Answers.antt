@@ -6,10 +6,10 @@ use Rattle.quoting.proofs.text.push_number.Goals as goal
 
 pub returns : goal.returns
 returns c =
-    let room = c.digits-of-start.new.room in
-    let start = c.digits-of-start.result in
+    let room = c.digits_of-start.new.room in
+    let start = c.digits_of-start.result in
     let items = vec_items c.args.out.now in
-    let short : length (drop start room) ≤ 20 - start = omega (arith, length-drop start room, c.digits-of-start.array_long) in
-    let part : take (20 - start) (drop start room) ≡ numeral c.args.number = take_all (20 - start) (drop start room) short ∙ c.digits-of-start.ensures.1 in
-    added c.extend-from-slice.result _ items (numeral c.args.number)
-    (c.extend-from-slice.ensures.items ∙ ap (λ (t : Bytes). cond (is_ok c.extend-from-slice.result) (items ++ t) items) part)
+    let short : length (drop start room) ≤ 20 - start = omega (arith, length-drop start room, c.digits_of-start.array_long) in
+    let part : take (20 - start) (drop start room) ≡ numeral c.args.number = take_all (20 - start) (drop start room) short ∙ c.digits_of-start.ensures.1 in
+    added c.extend_from_slice.result _ items (numeral c.args.number)
+    (c.extend_from_slice.ensures.items ∙ ap (λ (t : Bytes). cond (is_ok c.extend_from_slice.result) (items ++ t) items) part)

@@ -17,11 +17,11 @@ returns-in-Outcome c =
     let b = fit.next in
     let u : PlacedWell e = (omega arith, omega arith) in
     record {
-      answer = subst (λ (y : Entry). MatchResult c.with-record.result (λ p. EntryEntered c.args.records c.args.worths s.conditions s.remedies s.parts s.least s.count s.worths y p.least p.count p.worths) (EntryStopped c.args.records c.args.worths s.conditions s.remedies s.parts s.least s.count s.worths y)) (sym c.in-Outcome.is)
-          (by_cases c.with-record.result _ _ _ _ _ c.with-record.ensures.answer c.with-record.ensures.grown
+      answer = subst (λ (y : Entry). MatchResult c.with_record.result (λ p. EntryEntered c.args.records c.args.worths s.conditions s.remedies s.parts s.least s.count s.worths y p.least p.count p.worths) (EntryStopped c.args.records c.args.worths s.conditions s.remedies s.parts s.least s.count s.worths y)) (sym c.in-Outcome.is)
+          (by_cases c.with_record.result _ _ _ _ _ c.with_record.ensures.answer c.with_record.ensures.grown
           (λ p h g. entered_record c.args.records c.args.worths s.conditions s.remedies s.parts s.least s.count s.worths e p.least p.count p.worths u h.0 g.0 h.1 g.1 g.2)
           (λ f h. stopped_record c.args.records c.args.worths s.conditions s.remedies s.parts s.least s.count s.worths e f u h));
-      sizes = made_so c.with-record.result _ _ c.with-record.ensures.grown (λ p g. (g.3, g.4, g.5));
+      sizes = made_so c.with_record.result _ _ c.with_record.ensures.grown (λ p g. (g.3, g.4, g.5));
       space = search rules;
       grown = search rules;
     }
@@ -32,11 +32,11 @@ returns-in-Worth c =
     let n = c.in-Worth.condition in
     let z = c.in-Worth.worth in
     record {
-      answer = subst (λ (y : Entry). MatchResult c.with-worth.result (λ p. EntryEntered c.args.records c.args.worths s.conditions s.remedies s.parts s.least s.count s.worths y p.least p.count p.worths) (EntryStopped c.args.records c.args.worths s.conditions s.remedies s.parts s.least s.count s.worths y)) (sym c.in-Worth.is)
-          (by_cases c.with-worth.result _ _ _ _ _ c.with-worth.ensures.answer c.with-worth.ensures.grown
+      answer = subst (λ (y : Entry). MatchResult c.with_worth.result (λ p. EntryEntered c.args.records c.args.worths s.conditions s.remedies s.parts s.least s.count s.worths y p.least p.count p.worths) (EntryStopped c.args.records c.args.worths s.conditions s.remedies s.parts s.least s.count s.worths y)) (sym c.in-Worth.is)
+          (by_cases c.with_worth.result _ _ _ _ _ c.with_worth.ensures.answer c.with_worth.ensures.grown
           (λ p h g. entered_worth c.args.records c.args.worths s.conditions s.remedies s.parts s.least s.count s.worths n z p.least p.count p.worths h.0 g.0 h.1 g.1 g.2)
           (λ f h. stopped_worth c.args.records c.args.worths s.conditions s.remedies s.parts s.least s.count s.worths n z f h));
-      sizes = made_so c.with-worth.result _ _ c.with-worth.ensures.grown (λ p g. (g.3, g.4, g.5));
+      sizes = made_so c.with_worth.result _ _ c.with_worth.ensures.grown (λ p g. (g.3, g.4, g.5));
       space = search rules;
       grown = search rules;
     }

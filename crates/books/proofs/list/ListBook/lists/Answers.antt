@@ -16,7 +16,7 @@ unlisted b s x m w e below above away =
 pub returns-then-found-remedy : goal.returns-then-found-remedy
 returns-then-found-remedy c =
     let b = c.args.self.now in
-    let at = c.first-of-at.result in
+    let at = c.first_of-at.result in
     let l : at < length b.records.now = omega arith in
     let found = get_or b.records.now at no_record in
     let same : listed b.records.now c.args.condition c.args.remedy found.next ≡ found = listed_hit b.records.now _ _ _ at b.records_rise l (omega arith) (omega arith) refl in
@@ -27,10 +27,10 @@ returns-then-found-remedy c =
 
 pub returns-else-found-condition : goal.returns-else-found-condition
 returns-else-found-condition c =
-    let e = c.first-of-at.ensures in
-    unlisted c.args.self.now _ _ c.first-of-at.result _ refl e.below e.above (λ l p. ⊎_elim (λ n. omega arith) (λ n. omega arith) c.else-found-condition.either)
+    let e = c.first_of-at.ensures in
+    unlisted c.args.self.now _ _ c.first_of-at.result _ refl e.below e.above (λ l p. ⊎_elim (λ n. omega arith) (λ n. omega arith) c.else-found-condition.either)
 
 pub returns-else-at-self : goal.returns-else-at-self
 returns-else-at-self c =
-    let e = c.first-of-at.ensures in
-    unlisted c.args.self.now _ _ c.first-of-at.result _ refl e.below e.above (λ l p. omega arith)
+    let e = c.first_of-at.ensures in
+    unlisted c.args.self.now _ _ c.first_of-at.result _ refl e.below e.above (λ l p. omega arith)

@@ -12,9 +12,9 @@ module _ (c r parts : ℕ) (es : List Record) (worths : List ℤ) (checked : Lis
   rise : KeysRise es
   rise = keys_rise c r parts es checked.0.0.few_conditions checked.0.0.few_remedies entered
 
-pub starts-of-requires : goal.starts-of-requires
-starts-of-requires c =
-    let e = c.in-ok-check.ensures in
+pub starts_of-requires : goal.starts_of-requires
+starts_of-requires c =
+    let e = c.in_ok-check.ensures in
     let few = e.0.0.few_conditions in
     let few_remedies = e.0.0.few_remedies in
     let entered = entered c.args.conditions c.args.remedies c.args.parts c.args.records.now c.args.worths.now e in record {
@@ -22,9 +22,9 @@ starts-of-requires c =
       rise = rise c.args.conditions c.args.remedies c.args.parts c.args.records.now c.args.worths.now e;
     }
 
-pub invariant-of-self : goal.invariant-of-self
-invariant-of-self c =
-    let e = c.in-ok-check.ensures in
+pub invariant_of-self : goal.invariant_of-self
+invariant_of-self c =
+    let e = c.in_ok-check.ensures in
     let s = e.0.0 in
     let fits = e.1 in
     let entered = entered c.args.conditions c.args.remedies c.args.parts c.args.records.now c.args.worths.now e in
@@ -46,7 +46,7 @@ invariant-of-self c =
                     (λ i l. let f = (entered i l).0 in (f.some_condition, f.some_remedy, f.some_next)),
                     (
                       (λ i l. let f = (entered i l).0 in (f.some_share, f.few_share, f.small_amount)),
-                      (rise, ((λ i l. (fits 3 i (inr (inr (refl, l)))).1 refl), (c.starts-of.ensures.below, (c.starts-of.ensures.above, tt)))),
+                      (rise, ((λ i l. (fits 3 i (inr (inr (refl, l)))).1 refl), (c.starts_of.ensures.below, (c.starts_of.ensures.above, tt)))),
                     ),
                   ),
                 ),

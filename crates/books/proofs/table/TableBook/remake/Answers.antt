@@ -1,9 +1,9 @@
 use Rattle.std.proofs.Common.{refl, inl, inr}
 use Rattle.books.proofs.table.TableBook.remake.Goals as goal
 
-pub invariant-of-self : goal.invariant-of-self
-invariant-of-self c =
-    let e = c.in-ok-check.ensures in
+pub invariant_of-self : goal.invariant_of-self
+invariant_of-self c =
+    let e = c.in_ok-check.ensures in
     let s = e.0.0 in
     let fits = e.1 in (
       s.some_condition,

@@ -4,19 +4,19 @@ use Rattle.books.proofs.table.making.check.Goals as goal
 
 pub returns : goal.returns
 returns c =
-    (c.is-shaped.ensures.0 c.if-not-is-shaped.false, λ t i h. ((λ e. c.in-default.ensures i (in_first _ _ _ t i h e)), (λ e. c.in-default-first-large.ensures i (in_second _ _ _ t i h e)), (λ e. c.in-default-first-large-2.ensures i (in_third _ _ _ t i h e))))
+    (c.is_shaped.ensures.0 c.if-not-is_shaped.false, λ t i h. ((λ e. c.in_default.ensures i (in_first _ _ _ t i h e)), (λ e. c.in_default-first_large.ensures i (in_second _ _ _ t i h e)), (λ e. c.in_default-first_large-2.ensures i (in_third _ _ _ t i h e))))
 
 pub returns-in-Some : goal.returns-in-Some
 returns-in-Some c =
     let f = c.in-Some.ensures in
-    (c.is-shaped.ensures.0 c.if-not-is-shaped.false, inl (refl, f.0), (λ fits. f.1 (fits.0 refl)), λ t i h early. ((λ e. f.2 i (earlier_there t i 1 _ early e)), (λ e. absurd (earlier_not t i 1 _ early (omega arith))), (λ e. absurd (earlier_not t i 1 _ early (omega arith)))))
+    (c.is_shaped.ensures.0 c.if-not-is_shaped.false, inl (refl, f.0), (λ fits. f.1 (fits.0 refl)), λ t i h early. ((λ e. f.2 i (earlier_there t i 1 _ early e)), (λ e. absurd (earlier_not t i 1 _ early (omega arith))), (λ e. absurd (earlier_not t i 1 _ early (omega arith)))))
 
-pub returns-in-Some-first-large : goal.returns-in-Some-first-large
-returns-in-Some-first-large c =
-    let f = c.in-Some-first-large.ensures in
-    (c.is-shaped.ensures.0 c.if-not-is-shaped.false, inr (inl (refl, f.0)), (λ fits. f.1 (fits.1 refl)), λ t i h early. ((λ e. c.in-default.ensures i (in_first _ _ _ t i h e)), (λ e. f.2 i (earlier_there t i 2 _ early e)), (λ e. absurd (earlier_not t i 2 _ early (omega arith)))))
+pub returns-in-Some-first_large : goal.returns-in-Some-first_large
+returns-in-Some-first_large c =
+    let f = c.in-Some-first_large.ensures in
+    (c.is_shaped.ensures.0 c.if-not-is_shaped.false, inr (inl (refl, f.0)), (λ fits. f.1 (fits.1 refl)), λ t i h early. ((λ e. c.in_default.ensures i (in_first _ _ _ t i h e)), (λ e. f.2 i (earlier_there t i 2 _ early e)), (λ e. absurd (earlier_not t i 2 _ early (omega arith)))))
 
-pub returns-in-Some-first-large-2 : goal.returns-in-Some-first-large-2
-returns-in-Some-first-large-2 c =
-    let f = c.in-Some-first-large-2.ensures in
-    (c.is-shaped.ensures.0 c.if-not-is-shaped.false, inr (inr (refl, f.0)), (λ fits. f.1 (fits.2 refl)), λ t i h early. ((λ e. c.in-default.ensures i (in_first _ _ _ t i h e)), (λ e. c.in-default-first-large.ensures i (in_second _ _ _ t i h e)), (λ e. f.2 i (earlier_there t i 3 _ early e))))
+pub returns-in-Some-first_large-2 : goal.returns-in-Some-first_large-2
+returns-in-Some-first_large-2 c =
+    let f = c.in-Some-first_large-2.ensures in
+    (c.is_shaped.ensures.0 c.if-not-is_shaped.false, inr (inr (refl, f.0)), (λ fits. f.1 (fits.2 refl)), λ t i h early. ((λ e. c.in_default.ensures i (in_first _ _ _ t i h e)), (λ e. c.in_default-first_large.ensures i (in_second _ _ _ t i h e)), (λ e. f.2 i (earlier_there t i 3 _ early e))))

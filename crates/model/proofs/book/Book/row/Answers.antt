@@ -1,6 +1,6 @@
-use Rattle.std.proofs.Common.{◌≡◌, ℕ, ◌+◌, ◌<◌, ◌≤◌, length, take, ℤ, sym, ap, ◌∙◌, subst, arith, w64, SFits, rules}
+use Rattle.std.proofs.Common.{ℕ, ◌+◌, ◌<◌, ◌≤◌, take, ap, ◌∙◌, subst, arith, w64, SFits, rules}
 use Rattle.std.proofs.lemmas.Int.{to_z-of_z}
-use Rattle.model.specs.Rows.{outcome, outcomes}
+use Rattle.model.specs.Rows.{outcome}
 use Rattle.model.specs.declared.row.Outcome.{Outcome}
 use Rattle.model.proofs.Listing.{written_more, listed_skip}
 use Rattle.model.proofs.book.Book.row.Goals as goal

@@ -6,7 +6,7 @@ pub returns : goal.returns
 returns g c =
     let book = c.args.self.now.book in
     record {
-      answer = c.is-empty.ensures;
-      model = λ e. blank_is_the_book (g.B.Book.model book) (vec_items c.args.self.now.notes.list) (g.B.Book.lawful book) (sym c.is-empty.ensures ∙ e);
+      answer = c.is_empty.ensures;
+      model = λ e. blank_is_the_book (g.B.Book.model book) (vec_items c.args.self.now.notes.list) (g.B.Book.lawful book) (sym c.is_empty.ensures ∙ e);
       law = blank_sheet_is_the_book;
     }

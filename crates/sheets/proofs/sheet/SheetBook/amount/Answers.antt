@@ -5,8 +5,8 @@ use Rattle.model.specs.Model.{Money}
 use Rattle.sheets.specs.Notes.{surcharged, held}
 use Rattle.sheets.proofs.sheet.SheetBook.amount.Goals as goal
 
-pub overflow-add-amount : goal.overflow-add-amount
-overflow-add-amount g c =
+pub overflow_add-amount : goal.overflow_add-amount
+overflow_add-amount g c =
     let law = (g.B.Book.lawful c.args.self.now.book).amount_fits c.args.visit c.args.condition c.args.remedy c.args.next in
     let money : Money c.amount.result = subst Money (sym c.amount.ensures) law in
     omega (arith, ints)

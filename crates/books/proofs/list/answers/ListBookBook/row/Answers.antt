@@ -8,7 +8,7 @@ pub returns-then-not-inside : goal.returns-then-not-inside
 returns-then-not-inside c = (omega arith, outside c.args.self.now c.args.visit c.args.condition c.args.remedy (sym c.if-not-inside.ensures))
 
 pub loop-at-init : goal.loop-at-init
-loop-at-init c = (0, omega arith, omega arith, c.told-row, refl, c.first-of-at.ensures.below, c.first-of-at.ensures.above)
+loop-at-init c = (0, omega arith, omega arith, c.told-row, refl, c.first_of-at.ensures.below, c.first_of-at.ensures.above)
 
 pub loop-at-preserved : goal.loop-at-preserved
 loop-at-preserved c =
