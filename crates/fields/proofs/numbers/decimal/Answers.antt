@@ -3,7 +3,7 @@ use Rattle.std.proofs.lemmas.List.{drop_all}
 use Rattle.fields.specs.Numerals.{value_after}
 use Rattle.fields.proofs.CodeNumerals.{held, held_step}
 use Rattle.fields.proofs.numbers.decimal.Goals as goal
-use Rattle.fields.proofs.numbers.decimal.Goals.{then-part-lt2, else-part-lt2+in_default·}
+use Rattle.fields.proofs.numbers.decimal.Goals.{then-part-lt2, else-part-lt2+in_default-1}
 
 pub loop-b-preserved : goal.loop-b-preserved
 loop-b-preserved c =
@@ -15,4 +15,4 @@ pub returns : goal.returns
 returns c =
     let t : held (value_after c.loop-b.sum (drop c.loop-b.b-index c.args.part.now)) ≡ held c.loop-b.sum = ap (λ ds. held (value_after c.loop-b.sum ds)) (drop_all c.loop-b.b-index c.args.part.now (omega arith)) in
     let f : c.loop-b.sum ≡ held c.loop-b.sum = omega (arith, c.loop-b.invariant.0) in
-    (record { some = search rules; low = λ k h. (c.loop-b.invariant.1 k (omega arith)).0; high = λ k h. (c.loop-b.invariant.1 k (omega arith)).1; leading = λ e. elim c.if-part-lt2.branch [ then-part-lt2 w ↦ search rules | else-part-lt2+in_default· w ↦ search rules ] }, f ∙ sym (c.loop-b.invariant.2 ∙ t))
+    (record { some = search rules; low = λ k h. (c.loop-b.invariant.1 k (omega arith)).0; high = λ k h. (c.loop-b.invariant.1 k (omega arith)).1; leading = λ e. elim c.if-part-lt2.branch [ then-part-lt2 w ↦ search rules | else-part-lt2+in_default-1 w ↦ search rules ] }, f ∙ sym (c.loop-b.invariant.2 ∙ t))

@@ -8,8 +8,8 @@ returns-in-Some c = let e = c.in-Some.ensures in record { read = number_good c.a
 pub returns-in-Some-2 : goal.returns-in-Some-2
 returns-in-Some-2 c = let e = c.in-Some.ensures in record { read = number_range c.args.line c.args.place c.args.low c.args.high c.args.part.now c.in-Some.n e.0 e.1 (inr (omega arith)) (omega arith); bound = tt }
 
-pub returns-in-Some-2·2 : goal.returns-in-Some-2·2
-returns-in-Some-2·2 c = let e = c.in-Some.ensures in record { read = number_range c.args.line c.args.place c.args.low c.args.high c.args.part.now c.in-Some.n e.0 e.1 (inl (omega arith)) (omega arith); bound = tt }
+pub returns-in-Some-2-2 : goal.returns-in-Some-2-2
+returns-in-Some-2-2 c = let e = c.in-Some.ensures in record { read = number_range c.args.line c.args.place c.args.low c.args.high c.args.part.now c.in-Some.n e.0 e.1 (inl (omega arith)) (omega arith); bound = tt }
 
 pub returns-in-None : goal.returns-in-None
 returns-in-None c = record { read = number_ill c.args.line c.args.place c.args.low c.args.high c.args.part.now c.in-None.ensures; bound = tt }

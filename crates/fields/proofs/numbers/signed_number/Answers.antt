@@ -12,13 +12,13 @@ returns-in_default c =
     let f = bytes_of c.args.field.field in
     record { read = plain_number c.args.field.line c.args.field.place c.args.most f u.1 ∙ number_ill c.args.field.line c.args.field.place 0 c.args.most f u.0; bound = tt }
 
-pub returns-in_err-n : goal.returns-in_err-n
-returns-in_err-n c =
+pub returns-in_err-n-in-45 : goal.returns-in_err-n-in-45
+returns-in_err-n-in-45 c =
     let p = err_from_is_err_and c.from_residual.result c.from_residual.ensures.1 in
     let some : 0 < length c.in-Number.part.now = search rules in
     let minus : get_or c.in-Number.part.now 0 0 ≡ 45 = search rules in
     let t = minus_field c.args.field.line c.args.field.place c.args.most c.args.field.field c.in-Number.part c.in-Number.is some minus in
-    rw (p.1, p.2) (record { read = t ∙ ap (below_zero c.args.field.line c.args.field.place) c.in_err-n.ensures.read; bound = tt })
+    rw (p.1, p.2) (record { read = t ∙ ap (below_zero c.args.field.line c.args.field.place) c.in_err-n-in-45.ensures.read; bound = tt })
 
 pub returns-in-0 : goal.returns-in-0
 returns-in-0 c =
@@ -31,6 +31,6 @@ pub returns-in_default-2 : goal.returns-in_default-2
 returns-in_default-2 c =
     let some : 0 < length c.in-Number.part.now = search rules in
     let minus : get_or c.in-Number.part.now 0 0 ≡ 45 = search rules in
-    let more : c.in_ok-n.n ≡ 0 → ⊥ = λ e. search rules in
+    let more : c.in_ok-n-in-45.n ≡ 0 → ⊥ = λ e. search rules in
     let t = minus_field c.args.field.line c.args.field.place c.args.most c.args.field.field c.in-Number.part c.in-Number.is some minus in
-    record { read = t ∙ ap (below_zero c.args.field.line c.args.field.place) c.in_ok-n.ensures.read ∙ below_good c.args.field.line c.args.field.place c.in_ok-n.n more ∙ ap good (omega (arith, ints)); bound = search rules }
+    record { read = t ∙ ap (below_zero c.args.field.line c.args.field.place) c.in_ok-n-in-45.ensures.read ∙ below_good c.args.field.line c.args.field.place c.in_ok-n-in-45.n more ∙ ap good (omega (arith, ints)); bound = search rules }

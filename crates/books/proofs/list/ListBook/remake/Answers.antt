@@ -28,31 +28,18 @@ invariant_of-self c =
     let s = e.0.0 in
     let fits = e.1 in
     let entered = entered c.args.conditions c.args.remedies c.args.parts c.args.records.now c.args.worths.now e in
-    let rise = rise c.args.conditions c.args.remedies c.args.parts c.args.records.now c.args.worths.now e in (
-      s.some_condition,
-      (
-        s.few_conditions,
-        (
-          s.some_remedy,
-          (
-            s.few_remedies,
-            (
-              s.some_parts,
-              (
-                s.few_parts,
-                (
-                  e.0.1,
-                  (
-                    (λ i l. let f = (entered i l).0 in (f.some_condition, f.some_remedy, f.some_next)),
-                    (
-                      (λ i l. let f = (entered i l).0 in (f.some_share, f.few_share, f.small_amount)),
-                      (rise, ((λ i l. (fits 3 i (inr (inr (refl, l)))).1 refl), (c.starts_of.ensures.below, (c.starts_of.ensures.above, tt)))),
-                    ),
-                  ),
-                ),
-              ),
-            ),
-          ),
-        ),
-      ),
-    )
+    let rise = rise c.args.conditions c.args.remedies c.args.parts c.args.records.now c.args.worths.now e in record {
+      some_condition = s.some_condition;
+      few_conditions = s.few_conditions;
+      some_remedy = s.some_remedy;
+      few_remedies = s.few_remedies;
+      some_parts = s.some_parts;
+      few_parts = s.few_parts;
+      worths_long = e.0.1;
+      records_placed = λ i l. let f = (entered i l).0 in (f.some_condition, f.some_remedy, f.some_next);
+      records_valued = λ i l. let f = (entered i l).0 in (f.some_share, f.few_share, f.small_amount);
+      records_rise = rise;
+      worths_small = λ i l. (fits 3 i (inr (inr (refl, l)))).1 refl;
+      starts_below = c.starts_of.ensures.below;
+      starts_above = c.starts_of.ensures.above;
+    }
