@@ -6,8 +6,8 @@ use Rattle.checks.proofs.Rows.{none_yet}
 use Rattle.planning.proofs.Steps.{account_of, account_more, account_all, next_below}
 use Rattle.planning.proofs.outcomes.account.Goals as goal
 
-pub offset-bounds-later-outcome : goal.offset-bounds-later-outcome
-offset-bounds-later-outcome g c =
+pub offset_bounds-later-outcome : goal.offset_bounds-later-outcome
+offset_bounds-later-outcome g c =
     let m = g.B.Book.model c.args.book.now in
     let xs = take c.row-count.result c.row-count.new.row in
     let low : (get_or xs c.loop-outcome.outcome-index none_yet).next < length c.args.later.now = next_below m c.args.visit c.args.condition c.args.remedy m.conditions _ xs c.loop-outcome.outcome-index c.requires c.row-count.ensures.1 c.loop-outcome-test.true in
