@@ -4,4 +4,4 @@ use Rattle.bookfile.proofs.Rewriting.{read_then_written}
 use Rattle.bookfile.proofs.Exactness.{reading_is_exact_lem, one_book_a_file, one_file_a_book}
 
 pub returns : goal.returns
-returns c = record { exact = reading_is_exact_lem; same-file = read_then_written; same-book = written_then_read; one-book = one_book_a_file; one-file = one_file_a_book }
+returns c = record { exact = reading_is_exact_lem; same_file = read_then_written; same_book = written_then_read; one_book = one_book_a_file; one_file = one_file_a_book }
