@@ -1,5 +1,5 @@
 -- Reading comes on by one line, as the loops of the code do.
-use Rattle.std.proofs.Common.{◌≡◌, ℕ, zero, suc, ◌+◌, ◌<◌, ◌≤◌, List, [], ◌∷◌, ◌++◌, length, ℤ, IfOk, Ok, Err, Result, sym, refl, ap, ◌∙◌, subst, arith, length-append, MatchResult}
+use Rattle.std.proofs.Common.{◌≡◌, ℕ, suc, ◌+◌, ◌<◌, ◌≤◌, List, [], ◌∷◌, ◌++◌, length, ℤ, IfOk, Ok, Err, Result, sym, refl, ap, ◌∙◌, subst, arith, length-append, MatchResult}
 use Rattle.bookfile.specs.declared.read.ReadBook.{ReadBook}
 use Rattle.bookfile.specs.declared.faults.FileFault.TheVariants.{Surplus}
 use Rattle.bookfile.specs.FileCalls.{CheckAnswers}
@@ -14,7 +14,7 @@ use Rattle.bookfile.specs.declared.entries.Entry.{Entry}
 use Rattle.bookfile.specs.declared.entries.Entry.TheVariants.{Outcome, Worth, End}
 use Rattle.bookfile.specs.declared.faults.FileFault.{FileFault}
 use Rattle.bookfile.specs.Faults.{reported_file}
-use Rattle.bookfile.specs.File.{WrittenBook, may_stand, form}
+use Rattle.bookfile.specs.File.{may_stand, form}
 use Rattle.bookfile.specs.File.State.{begin, middle, finished}
 use Rattle.bookfile.specs.Reading.{read_on, reading}
 use Rattle.bookfile.specs.Entered.{size_values, SizesRead}

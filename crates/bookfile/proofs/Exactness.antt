@@ -1,21 +1,21 @@
 -- Reading answers exactly what the format's own terms say.
-use Rattle.std.proofs.Common.{◌≡◌, ℕ, suc, ◌+◌, ◌≤◌, Bool, true, false, cond, eqb, ltb, ◌⊎◌, List, [], ◌∷◌, ◌++◌, length, get_or, ℤ, pos, sym, refl, ap, ◌∙◌, subst, inl, inr, ⊎_elim, arith}
+use Rattle.std.proofs.Common.{◌≡◌, ℕ, suc, ◌+◌, Bool, true, false, eqb, ltb, ◌⊎◌, List, [], ◌∷◌, length, get_or, ℤ, pos, sym, refl, ap, ◌∙◌, subst, inl, inr, ⊎_elim, arith}
 use Rattle.std.proofs.lemmas.Bool.{le-ltb, cond_both, cond-true, cond-false, cases_eq}
 use Rattle.fields.specs.Numerals.{Bytes}
 use Rattle.fields.specs.Lines.{joined, split, Starts}
 use Rattle.fields.specs.Kinds.{Misread}
-use Rattle.fields.specs.Checking.{Reported, reported, Checked, and_then, size_at, check_line}
+use Rattle.fields.specs.Checking.{Reported, reported, and_then, size_at}
 use Rattle.fields.specs.Checking.Checked.{good, faulty}
-use Rattle.fields.proofs.Digits.{All, all_index, index_all}
+use Rattle.fields.proofs.Digits.{all_index, index_all}
 use Rattle.fields.proofs.Splitting.{joined_split, split_clear, split_none, started}
 use Rattle.fields.proofs.Faultless.{good_same, spelled}
 use Rattle.fields.proofs.Faulted.{line_faults_are_exact_lem}
 use Rattle.fields.proofs.Passing.{line_passes, misread_line}
-use Rattle.bookfile.specs.File.{WrittenBook, State, render, line_count, may_stand, form}
+use Rattle.bookfile.specs.File.{WrittenBook, line_count, may_stand, form}
 use Rattle.bookfile.specs.File.State.{begin, middle, finished}
-use Rattle.bookfile.specs.FileFaults.{HasRoom, Opens, InTurn, Full, Goes_on, Faulty, Reads}
+use Rattle.bookfile.specs.FileFaults.{InTurn, Full, Goes_on, Faulty}
 use Rattle.bookfile.specs.FileFaults.Faulty.{first_line, later_line, out_of_order, no_space, after_end}
-use Rattle.bookfile.specs.Reading.{rises_after, record_from, plus_record, plus_worth, enter_line, read_line, read_lines, read_on, reading, ReadingIsExact, OneBookAFile, OneFileABook}
+use Rattle.bookfile.specs.Reading.{rises_after, record_from, enter_line, read_lines, read_on, reading, ReadingIsExact, OneBookAFile, OneFileABook}
 use Rattle.bookfile.proofs.Standing.{sound_begun, lawful_sound}
 use Rattle.bookfile.proofs.Rereading.{read_on_line, read_opened, read_rendered, written_then_read}
 use Rattle.bookfile.proofs.Rewriting.{came_lines, read_then_written}

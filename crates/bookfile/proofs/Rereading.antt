@@ -1,5 +1,5 @@
 -- What was written is read back.
-use Rattle.std.proofs.Common.{◌≡◌, ℕ, zero, suc, ◌+◌, ◌-◌, ◌<◌, ◌≤◌, true, cond, eqb, ltb, leb, List, [], ◌∷◌, ◌++◌, length, get_or, ℤ, pos, nat_abs, sym, refl, ap, ◌∙◌, subst, inl, append_assoc, append-nil, arith, lit≤, length-append}
+use Rattle.std.proofs.Common.{◌≡◌, ℕ, suc, ◌+◌, ◌-◌, ◌<◌, ◌≤◌, true, cond, eqb, ltb, List, [], ◌∷◌, ◌++◌, length, get_or, ℤ, pos, sym, refl, ap, ◌∙◌, subst, append_assoc, append-nil, arith, lit≤, length-append}
 use lib.ListN.{get_or-append}
 use lib.Seq.{get_or-append_seam}
 use Rattle.std.proofs.lemmas.Bool.{eq-eqb, cond_both, cond-true, le-leb, lt-ltb, lt-leb}
@@ -7,10 +7,10 @@ use Rattle.books.specs.declared.record.Record.{Record}
 use Rattle.books.specs.Alike.{Sizes}
 use Rattle.books.specs.Entries.{SmallMoney, AllSmall, RecordFits, Rising, no_record}
 use Rattle.books.specs.Making.{Entered}
-use Rattle.fields.specs.Numerals.{Bytes, numeral, signed}
-use Rattle.fields.specs.Lines.{joined, line, split}
-use Rattle.fields.specs.Checking.{Checked, and_then, is_letter}
-use Rattle.fields.specs.Checking.Checked.{good, faulty}
+use Rattle.fields.specs.Numerals.{Bytes}
+use Rattle.fields.specs.Lines.{joined, line}
+use Rattle.fields.specs.Checking.{and_then, is_letter}
+use Rattle.fields.specs.Checking.Checked.{good}
 use Rattle.fields.proofs.Digits.{All}
 use Rattle.fields.proofs.Splitting.{Each, each_map, split_line, joined_all}
 use Rattle.fields.proofs.Faultless.{Dark, numeral_dark, signed_dark, check_number, check_signed, line_good}

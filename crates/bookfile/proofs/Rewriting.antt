@@ -1,20 +1,20 @@
 -- What was read so far is what the state says, byte by byte, and keeps every limit.
-use Rattle.std.proofs.Common.{◌≡◌, ℕ, zero, suc, ◌+◌, ◌-◌, ◌<◌, ◌≤◌, true, false, cond, eqb, ltb, leb, ◌⊎◌, List, [], ◌∷◌, ◌++◌, length, get_or, ℤ, pos, nat_abs, sym, refl, ap, ◌∙◌, subst, inl, inr, ⊎_elim, append_assoc, append-nil, arith, length-append}
+use Rattle.std.proofs.Common.{◌≡◌, ℕ, suc, ◌+◌, ◌≤◌, cond, eqb, ltb, leb, ◌⊎◌, List, [], ◌∷◌, ◌++◌, length, get_or, ℤ, pos, sym, refl, ap, ◌∙◌, subst, inl, inr, ⊎_elim, append_assoc, append-nil, arith, length-append}
 use Rattle.std.proofs.lemmas.Bool.{ltb-true, eqb-true, leb-true, cond_both, cases_eq}
 use Rattle.books.specs.declared.record.Record.{Record}
 use Rattle.books.specs.Entries.{RecordFits}
-use Rattle.fields.specs.Numerals.{Bytes, numeral, signed}
+use Rattle.fields.specs.Numerals.{Bytes}
 use Rattle.fields.specs.Lines.{joined, line, split}
 use Rattle.fields.specs.Kinds.{LetterOf}
-use Rattle.fields.specs.Checking.{reported, Checked, and_then, size_at, check_line}
+use Rattle.fields.specs.Checking.{reported, size_at, check_line}
 use Rattle.fields.specs.Checking.Checked.{good, faulty}
 use Rattle.fields.proofs.Splitting.{joined_split}
 use Rattle.fields.proofs.Faultless.{good_same, cond_good, then_good, letter_one, LineRead, line_sound}
 use Rattle.bookfile.specs.File.{WrittenBook, State, size_fields, record_fields, worth_fields, record_lines, worth_lines, opening, render, line_count, may_stand, form}
 use Rattle.bookfile.specs.File.State.{begin, middle, finished}
 use Rattle.bookfile.specs.FileFaults.{HasRoom}
-use Rattle.bookfile.specs.Reading.{rises_after, record_from, sized, plus_record, plus_worth, enter_record, enter_worth, enter_line, read_line, read_rest, read_lines, ReadThenWritten}
-use Rattle.bookfile.proofs.Standing.{SoundBook, AboveLast, last_below, sound_record, sound_worth}
+use Rattle.bookfile.specs.Reading.{rises_after, record_from, sized, plus_record, plus_worth, enter_line, read_line, read_lines, ReadThenWritten}
+use Rattle.bookfile.proofs.Standing.{SoundBook, last_below, sound_record, sound_worth}
 
 record_lines_append : (xs ys : List Record) → record_lines (xs ++ ys) ≡ record_lines xs ++ record_lines ys
 record_lines_append [] ys = refl

@@ -1,10 +1,10 @@
 -- Every fault that is computed is the first.
-use Rattle.std.proofs.Common.{◌≡◌, ℕ, suc, cond, eqb, ltb, ◌⊎◌, List, [], ◌∷◌, ◌++◌, length, get_or, ℤ, pos, sym, refl, ap, ◌∙◌, subst, inl, inr, ⊎_elim, append-nil}
+use Rattle.std.proofs.Common.{◌≡◌, ℕ, suc, cond, eqb, ltb, ◌⊎◌, List, [], ◌∷◌, ◌++◌, length, get_or, ℤ, pos, sym, refl, ap, ◌∙◌, subst, inl, inr, ⊎_elim}
 use Rattle.std.proofs.lemmas.Bool.{ltb-false, both_ways, cases_eq}
 use Rattle.fields.specs.Numerals.{Bytes}
 use Rattle.fields.specs.Lines.{joined}
 use Rattle.fields.specs.Kinds.Misread.{unended}
-use Rattle.fields.specs.Checking.{Reported, reported, Checked, size_at, check_line}
+use Rattle.fields.specs.Checking.{Reported, reported, size_at, check_line}
 use Rattle.fields.specs.Checking.Checked.{good, faulty}
 use Rattle.fields.proofs.Digits.{All, all_index}
 use Rattle.fields.proofs.Splitting.{Each}

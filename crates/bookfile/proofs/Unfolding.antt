@@ -1,5 +1,5 @@
 -- Reading unfolds by one line, as the code reads one.
-use Rattle.std.proofs.Common.{◌≡◌, ℕ, zero, suc, ◌+◌, ◌-◌, ◌*◌, ◌<◌, ◌≤◌, Bool, true, false, cond, eqb, ltb, leb, ◌⊎◌, List, [], ◌∷◌, ◌++◌, length, get_or, ℤ, pos, IfOk, Ok, Err, Result, sym, refl, ap, ◌∙◌, subst, inl, inr, ⊎_elim, arith, length-append, MatchResult}
+use Rattle.std.proofs.Common.{◌≡◌, ℕ, suc, ◌+◌, ◌<◌, ◌≤◌, Bool, true, false, eqb, ltb, ◌⊎◌, List, [], ◌∷◌, ◌++◌, length, get_or, ℤ, IfOk, Ok, Err, Result, sym, refl, ap, ◌∙◌, subst, inl, inr, ⊎_elim, arith, length-append, MatchResult}
 use lib.ListN.{get_or-append}
 use lib.Seq.{get_or_at}
 use Rattle.std.proofs.lemmas.Bool.{lt-ltb, le-ltb, eq-eqb, ne_eqb, cond-true, cond-false, cases_lt, cases_eq}
@@ -8,12 +8,12 @@ use Rattle.books.specs.Entries.{Rising, no_record, key}
 use Rattle.fields.specs.declared.faults.LineFault.{LineFault}
 use Rattle.fields.specs.Numerals.{Bytes}
 use Rattle.fields.specs.Lines.{split}
-use Rattle.fields.specs.Checking.{Reported, reported, Checked, and_then, check_line}
+use Rattle.fields.specs.Checking.{Reported, reported, and_then, check_line}
 use Rattle.fields.specs.Checking.Checked.{good, faulty}
 use Rattle.fields.specs.Views.{LineCut, NoLine}
 use Rattle.bookfile.specs.File.{WrittenBook, State, may_stand, form, next_letters, next_form}
-use Rattle.bookfile.specs.File.State.{begin, middle, finished}
-use Rattle.bookfile.specs.Reading.{rises, rises_after, plus_record, plus_worth, enter_record, enter_worth, enter_line, read_line, read_rest, read_lines, read_on}
+use Rattle.bookfile.specs.File.State.{begin, middle}
+use Rattle.bookfile.specs.Reading.{rises_after, enter_record, enter_worth, enter_line, read_line, read_lines, read_on}
 use Rattle.bookfile.specs.declared.entries.Sizes.{Sizes}
 use Rattle.bookfile.specs.declared.entries.Entry.{Entry}
 use Rattle.bookfile.specs.Entered.{entry_values, EntryRead}

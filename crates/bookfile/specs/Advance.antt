@@ -1,5 +1,5 @@
 -- How far reading has come, as the code holds it, and one line more.
-use Rattle.std.specs.Prelude.{◌≡◌, ℕ, suc, ◌+◌, ◌<◌, ◌≤◌, ◌⊎◌, List, [], ◌∷◌, ◌++◌, length, ℤ, Ok, Err, Result, slice_index_or}
+use Rattle.std.specs.Prelude.{◌≡◌, ℕ, suc, ◌+◌, ◌<◌, ◌⊎◌, List, [], ◌∷◌, ◌++◌, length, ℤ, slice_index_or}
 use Rattle.books.specs.declared.record.Record.{Record}
 use Rattle.books.specs.Entries.{no_record, key}
 use Rattle.fields.specs.declared.faults.LineFault.{LineFault}

@@ -1,5 +1,5 @@
 -- The limits of what lines say.
-use Rattle.std.specs.Prelude.{◌≡◌, ℕ, ◌<◌, ◌≤◌}
+use Rattle.std.specs.Prelude.{ℕ, ◌<◌, ◌≤◌}
 use Rattle.books.specs.declared.record.Record.{Record}
 use Rattle.bookfile.specs.declared.read.ReadBook.{ReadBook}
 use Rattle.bookfile.specs.declared.entries.Sizes.{Sizes}

@@ -8,7 +8,7 @@ use Rattle.fields.specs.Lines.{Starts}
 use Rattle.fields.specs.Kinds.{LetterOf, AllGood, Misread}
 use Rattle.fields.specs.Checking.{Reported, reported, Checked}
 use Rattle.fields.specs.Checking.Checked.{good, faulty}
-use Rattle.bookfile.specs.File.{WrittenBook, State, record_fields, opening, render, line_count, may_stand, form}
+use Rattle.bookfile.specs.File.{WrittenBook, record_fields, opening, render, line_count, may_stand, form}
 use Rattle.bookfile.specs.File.State.{begin, middle}
 
 -- a list book that making accepts

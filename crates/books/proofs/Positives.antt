@@ -1,5 +1,5 @@
 -- The records of a table's positive shares are in order and within the limits.
-use Rattle.std.proofs.Common.{◌≡◌, ℕ, zero, suc, ◌+◌, ◌<◌, ◌≤◌, List, [], ◌∷◌, ◌++◌, length, get_or, ℤ, refl, subst, inl, inr, ⊎_elim, arith}
+use Rattle.std.proofs.Common.{◌≡◌, ℕ, zero, suc, ◌<◌, ◌≤◌, List, [], ◌∷◌, ◌++◌, length, get_or, ℤ, refl, subst, inl, inr, ⊎_elim, arith}
 use lib.Arith.{digits_lt}
 use Rattle.std.proofs.lemmas.Bool.{cases_order}
 use Rattle.books.specs.declared.record.Record.{Record}

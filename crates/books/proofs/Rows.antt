@@ -2,7 +2,7 @@
 use Rattle.std.proofs.Common.{◌≡◌, ℕ, zero, suc, ◌+◌, ◌<◌, ◌≤◌, Bool, true, false, cond, ◌&&◌, ltb, List, [], length, get_or, take, set, ℤ, pos, sym, refl, ap, ◌∙◌, subst, ⊎_elim, arith}
 use Rattle.std.proofs.lemmas.Bool.{cond-true, cond-false, and_from, and_parts, ltb-true, cases_lt, cases_order, lt-ltb, le-ltb}
 use Rattle.model.specs.Model.{Model}
-use Rattle.model.specs.Rows.{outcome, outcomes}
+use Rattle.model.specs.Rows.{outcomes}
 use Rattle.model.specs.declared.row.Outcome.{Outcome}
 use Rattle.model.proofs.Listing.{written_more}
 use Rattle.books.specs.declared.list.ListBook.{ListBook}

@@ -1,9 +1,9 @@
 -- The first fault of a line that is computed is the one that the format's own terms name.
-use Rattle.std.proofs.Common.{◌≡◌, ℕ, zero, suc, ◌+◌, ◌<◌, ◌≤◌, Bool, true, false, cond, ◌&&◌, ◌||◌, eqb, leb, ◌⊎◌, List, [], ◌∷◌, ◌++◌, length, get_or, ℤ, pos, nat_abs, sym, refl, ap, ◌∙◌, subst, inl, inr, ⊎_elim, arith}
-use Rattle.std.proofs.lemmas.Bool.{eqb-true, eqb-false, eq-eqb, ne_eqb, and_parts, and_from, cond-true, cond-false, le-leb, leb-true, or_left, or_right, both_ways}
+use Rattle.std.proofs.Common.{◌≡◌, ℕ, zero, suc, ◌+◌, ◌<◌, ◌≤◌, Bool, true, false, cond, ◌&&◌, eqb, leb, ◌⊎◌, List, [], ◌∷◌, ◌++◌, length, get_or, ℤ, pos, nat_abs, sym, refl, ap, ◌∙◌, subst, inl, inr, ⊎_elim, arith}
+use Rattle.std.proofs.lemmas.Bool.{eqb-true, eqb-false, eq-eqb, ne_eqb, and_from, cond-true, cond-false, le-leb, or_left, or_right, both_ways}
 use Rattle.fields.specs.Numerals.{Bytes, numeral, signed, value, signed_value}
-use Rattle.fields.specs.Lines.{same, split, joined, Without, Starts}
-use Rattle.fields.specs.Kinds.{Kind, LetterOf, WellFormed, Good, Bad, Misread}
+use Rattle.fields.specs.Lines.{same, split, joined, Starts}
+use Rattle.fields.specs.Kinds.{Kind, LetterOf, Good, Bad, Misread}
 use Rattle.fields.specs.Kinds.Kind.{one_of, from_to, either_way}
 use Rattle.fields.specs.Kinds.Misread.{unended, wrong_letter, wrong_count, wrong_field}
 use Rattle.fields.specs.Checking.{Reported, reported, Checked, and_then, is_letter, check_field, check_fields, check_line, LineFaultsAreExact}

@@ -1,7 +1,7 @@
 -- Fields and lines that pass: their bytes and their values determine each other.
-use Rattle.std.proofs.Common.{◌≡◌, ℕ, zero, suc, ◌+◌, ◌<◌, ◌≤◌, Bool, true, false, cond, ◌&&◌, ◌||◌, eqb, leb, ◌⊎◌, List, [], ◌∷◌, ◌++◌, length, get_or, ℤ, pos, negsuc, nat_abs, sym, refl, ap, ◌∙◌, subst, inl, inr, ⊎_elim, append_assoc, arith, lit≤, length-append}
+use Rattle.std.proofs.Common.{◌≡◌, ℕ, suc, ◌≤◌, Bool, true, false, cond, ◌&&◌, eqb, leb, List, [], ◌∷◌, ◌++◌, length, get_or, ℤ, pos, negsuc, nat_abs, sym, refl, ap, ◌∙◌, subst, inl, inr, ⊎_elim, append_assoc, arith, lit≤, length-append}
 use lib.Seq.{get_or-append_seam}
-use Rattle.std.proofs.lemmas.Bool.{eqb-true, eq-eqb, and_parts, and_from, cond-true, le-leb, leb-true, or_cases}
+use Rattle.std.proofs.lemmas.Bool.{eq-eqb, and_parts, and_from, cond-true, le-leb, leb-true, or_cases}
 use Rattle.fields.specs.Numerals.{Bytes, numeral, signed, value, signed_value}
 use Rattle.fields.specs.Lines.{same, split, joined}
 use Rattle.fields.specs.Kinds.{Kind, LetterOf}

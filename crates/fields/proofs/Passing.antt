@@ -1,16 +1,16 @@
 -- A line passes exactly where its letter and all its fields are good.
-use Rattle.std.proofs.Common.{◌≡◌, ℕ, zero, suc, ◌+◌, ◌<◌, ◌≤◌, Bool, true, false, cond, eqb, ◌⊎◌, List, [], ◌∷◌, ◌++◌, length, get_or, ℤ, pos, nat_abs, sym, refl, ap, ◌∙◌, subst, inl, inr, arith}
-use Rattle.std.proofs.lemmas.Bool.{eqb-true, eq-eqb, cond-true}
+use Rattle.std.proofs.Common.{◌≡◌, ℕ, zero, suc, true, eqb, ◌⊎◌, List, [], ◌∷◌, ◌++◌, length, get_or, ℤ, pos, nat_abs, refl, ap, ◌∙◌, subst, inl, inr, arith}
+use Rattle.std.proofs.lemmas.Bool.{eq-eqb, cond-true}
 use Rattle.fields.specs.Numerals.{Bytes}
 use Rattle.fields.specs.Lines.{split, joined, Without, Starts}
-use Rattle.fields.specs.Kinds.{Kind, LetterOf, Good, AllGood, Misread}
-use Rattle.fields.specs.Kinds.Kind.{one_of, from_to, either_way}
+use Rattle.fields.specs.Kinds.{Kind, LetterOf, AllGood, Misread}
+use Rattle.fields.specs.Kinds.Kind.{one_of}
 use Rattle.fields.specs.Kinds.Misread.{unended, wrong_letter, wrong_count, wrong_field}
-use Rattle.fields.specs.Checking.{Reported, reported, Checked, and_then, is_letter, check_field, check_fields, check_line}
-use Rattle.fields.specs.Checking.Checked.{good, faulty}
+use Rattle.fields.specs.Checking.{reported, and_then, is_letter, check_field, check_fields, check_line}
+use Rattle.fields.specs.Checking.Checked.{good}
 use Rattle.fields.proofs.Digits.{All}
-use Rattle.fields.proofs.Splitting.{starts, started, first_part}
-use Rattle.fields.proofs.Faultless.{good_same, cond_good, then_good, letter_one, field_sound, fields_say, spelled}
+use Rattle.fields.proofs.Splitting.{starts, started}
+use Rattle.fields.proofs.Faultless.{cond_good, then_good, letter_one, field_sound, fields_say, spelled}
 use Rattle.fields.proofs.Faulted.{field_fine, field_passes, check_counted, line_started, letter_passes}
 
 fields_fine : (ts : List Kind) (fs : List Bytes) (k i : ℕ) (ys : List ℤ) → check_fields k i ts fs ≡ good ys → AllGood ts fs

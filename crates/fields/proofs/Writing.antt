@@ -1,6 +1,6 @@
 -- Digits from the last to the first.
-use Rattle.std.proofs.Common.{◌≡◌, ℕ, zero, suc, ◌+◌, ◌-◌, ◌*◌, ◌/◌, ◌%◌, ◌^◌, ◌<◌, ◌≤◌, cond, ltb, List, [], ◌∷◌, length, drop, set, sym, ap, ◌∙◌, subst, pow-suc, arith, length-set, drop-cons, get_or-set_same, drop-set-lt, le-ltb}
-use Rattle.std.proofs.lemmas.Bool.{cond-true, cond-false, ltb-true, ltb-false, cond_both, lt-ltb}
+use Rattle.std.proofs.Common.{◌≡◌, ℕ, zero, suc, ◌+◌, ◌-◌, ◌*◌, ◌/◌, ◌%◌, ◌^◌, ◌<◌, ◌≤◌, ltb, [], ◌∷◌, length, drop, set, sym, ap, ◌∙◌, subst, pow-suc, arith, length-set, drop-cons, get_or-set_same, drop-set-lt, le-ltb}
+use Rattle.std.proofs.lemmas.Bool.{cond-true, cond-false, ltb-false, cond_both, lt-ltb}
 use Rattle.fields.specs.Numerals.{Bytes, digits_onto, numeral}
 
 -- a number's digits before some bytes, whatever the turns

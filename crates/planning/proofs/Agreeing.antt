@@ -5,7 +5,6 @@ use Rattle.std.proofs.lemmas.Bool.{cases_lt}
 use Rattle.model.specs.Model.{Model, Lawful, offers}
 use Rattle.criteria.specs.Criteria.{Ops}
 use Rattle.criteria.specs.Policies.{Step, History, Within, Choice, Policy, next_visit, onward, remedied, value, Unbeaten, tabled}
-use Rattle.planning.specs.Tables.{at}
 use Rattle.criteria.specs.Optimal.{ahead, by_table}
 use Rattle.planning.specs.Plans.{ValuesOf, Lowest}
 use Rattle.planning.specs.Agreeing.{PlansAgree}

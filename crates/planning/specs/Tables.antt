@@ -1,5 +1,5 @@
 -- Tables with a row for each visit, an entry for each condition: the row n, from 0, is of the visit after n past visits.
-use Rattle.std.specs.Prelude.{◌≡◌, ℕ, ◌+◌, ◌-◌, ◌*◌, ◌<◌, ◌≤◌, List, length, take, drop, pos, slice_index, slice_index_or}
+use Rattle.std.specs.Prelude.{◌≡◌, ℕ, ◌+◌, ◌-◌, ◌*◌, ◌<◌, ◌≤◌, List, take, drop, pos, slice_index, slice_index_or}
 use Rattle.model.specs.Model.{Model}
 use Rattle.model.specs.Visits.{visit_after}
 use Rattle.criteria.specs.Criteria.{Ops}

@@ -1,5 +1,5 @@
 -- What entering and lifting a note change.
-use Rattle.std.proofs.Common.{◌≡◌, ℕ, suc, ◌+◌, ◌-◌, ◌<◌, ◌≤◌, Bool, true, false, cond, not, ◌&&◌, ◌||◌, T, leb, List, [], ◌∷◌, ◌++◌, length, take, drop, ℤ, ◌+ℤ◌, Ok, sym, refl, ap, ◌∙◌, arith, leb→le}
+use Rattle.std.proofs.Common.{◌≡◌, ℕ, suc, ◌+◌, ◌-◌, ◌≤◌, Bool, true, false, cond, not, ◌||◌, T, leb, List, [], ◌∷◌, ◌++◌, length, take, drop, ℤ, ◌+ℤ◌, sym, refl, ap, ◌∙◌, arith, leb→le}
 use mathlib.Core.Bool.{or_assoc, or_comm}
 use lib.IntN.{+ℤ_assoc, +ℤ_idl, +ℤ_idr}
 use Rattle.std.proofs.lemmas.List.{append-nil, length_push, take-append-drop, take_at, drop_all, drop_more}

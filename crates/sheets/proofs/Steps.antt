@@ -1,5 +1,5 @@
 -- The notes from a place on: the first of them, and those after it.
-use Rattle.std.proofs.Common.{◌≡◌, ℕ, ◌+◌, ◌<◌, Bool, true, false, ◌||◌, List, length, get_or, drop, ℤ, ◌+ℤ◌, sym, refl, ap, ◌∙◌}
+use Rattle.std.proofs.Common.{◌≡◌, ℕ, ◌+◌, ◌<◌, Bool, ◌||◌, List, length, get_or, drop, ℤ, ◌+ℤ◌, sym, ap, ◌∙◌}
 use lib.IntN.{+ℤ_assoc}
 use Rattle.std.proofs.lemmas.List.{at_drop_more}
 use Rattle.sheets.specs.declared.note.Note.{Note}

@@ -1,5 +1,5 @@
 -- The tests' own book: two conditions, two remedies, everything offered, one unit short of the hold.
-use Rattle.std.specs.Prelude.{◌≡◌, ℕ, Bool, true, false, cond, ◌&&◌, ℤ, pos, nat_le, nat_lt, refl}
+use Rattle.std.specs.Prelude.{ℕ, Bool, true, false, cond, ◌&&◌, pos, nat_le, nat_lt, refl}
 use Rattle.std.proofs.Common.{arith, lit≤}
 use Rattle.std.proofs.lemmas.Int.{ints}
 use Rattle.model.specs.Model.{Model, Money, Lawful, offers}

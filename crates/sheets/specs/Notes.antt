@@ -1,5 +1,5 @@
 -- Notes laid over a book, in order of entry, and what the book means under them.
-use Rattle.std.specs.Prelude.{ℕ, Bool, true, false, cond, not, ◌&&◌, ◌||◌, List, [], ◌∷◌, ℤ, pos, negsuc, ◌+ℤ◌, ◌==◌, nat_le, nat_lt}
+use Rattle.std.specs.Prelude.{ℕ, Bool, false, cond, not, ◌&&◌, ◌||◌, List, [], ◌∷◌, ℤ, pos, negsuc, ◌+ℤ◌, ◌==◌, nat_le, nat_lt}
 use Rattle.std.specs.Int.{int_max, int_min}
 use Rattle.model.specs.Model.{Model, Offers, offers}
 use Rattle.sheets.specs.declared.note.Note.{Note}

@@ -1,5 +1,5 @@
 -- What stands behind the values of an accepted plan or judgement.
-use Rattle.std.proofs.Common.{◌≡◌, ℕ, suc, ◌+◌, ◌-◌, ◌*◌, ◌<◌, ◌≤◌, T, List, length, get_or, ℤ, ◌≤ℤ◌, IfOk, Ok, Err, Result, sym, ◌∙◌, subst, arith}
+use Rattle.std.proofs.Common.{◌≡◌, ℕ, suc, ◌+◌, ◌-◌, ◌*◌, ◌≤◌, T, List, length, get_or, ℤ, ◌≤ℤ◌, IfOk, Ok, Err, Result, sym, ◌∙◌, subst, arith}
 use Rattle.std.proofs.lemmas.Int.{ints}
 use Rattle.model.specs.Model.{Model, offers, Lawful}
 use Rattle.model.specs.Visits.{Even, Fits}

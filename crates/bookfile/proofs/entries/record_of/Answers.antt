@@ -1,4 +1,4 @@
-use Rattle.std.proofs.Common.{◌≡◌, ◌-◌, List, [], ◌∷◌, ℤ, sym, subst, arith, w64, SFits, rules}
+use Rattle.std.proofs.Common.{◌≡◌, ◌-◌, ℤ, sym, subst, arith, w64, SFits, rules}
 use Rattle.std.proofs.lemmas.Result.{err_from_is_err_and}
 use Rattle.std.proofs.lemmas.Int.{to_z-of_z}
 use Rattle.fields.specs.Kinds.Kind.{from_to, either_way}

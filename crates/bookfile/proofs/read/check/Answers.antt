@@ -1,6 +1,5 @@
-use Rattle.std.proofs.Common.{◌≡◌, refl, subst, rules}
+use Rattle.std.proofs.Common.{refl, subst}
 use Rattle.bookfile.specs.declared.entries.Entry.{Entry}
-use Rattle.bookfile.specs.declared.entries.Entry.TheVariants.{End}
 use Rattle.bookfile.specs.Advance.{EntryNext}
 use Rattle.bookfile.proofs.Advancing.{first_read, line_entered, come_as, end_answers}
 use Rattle.bookfile.proofs.read.check.Goals as goal

@@ -1,4 +1,4 @@
-use Rattle.std.proofs.Common.{◌≡◌, ℕ, ◌+◌, ◌-◌, ◌/◌, ◌%◌, ◌^◌, ◌<◌, ◌≤◌, [], length, drop, sym, refl, ◌∙◌, subst, arith, length-set, rules}
+use Rattle.std.proofs.Common.{◌≡◌, ℕ, ◌+◌, ◌/◌, ◌%◌, ◌^◌, ◌<◌, [], drop, sym, refl, ◌∙◌, subst, arith, length-set}
 use native.Mathlib.Nat.{pow-zero}
 use Rattle.std.proofs.lemmas.List.{drop_all}
 use Rattle.fields.specs.Numerals.{Bytes, numeral}

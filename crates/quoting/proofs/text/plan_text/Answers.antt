@@ -1,4 +1,4 @@
-use Rattle.std.proofs.Common.{◌≡◌, ℕ, suc, ◌+◌, ◌/◌, ◌%◌, List, [], ◌∷◌, ◌++◌, get_or, ℤ, pos, vec_items, sym, ap, ◌∙◌, subst, add-one, arith, w64, SFits, rules}
+use Rattle.std.proofs.Common.{◌≡◌, ℕ, ◌+◌, ◌/◌, ◌%◌, List, [], ◌∷◌, ◌++◌, get_or, ℤ, pos, vec_items, sym, ap, ◌∙◌, add-one, arith, w64, SFits, rules}
 use Rattle.std.proofs.lemmas.Int.{to_z-of_z}
 use Rattle.fields.specs.Numerals.{Bytes, numeral}
 use Rattle.quoting.specs.Printing.{plan_line, plan_lines}

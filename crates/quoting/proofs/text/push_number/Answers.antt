@@ -1,4 +1,4 @@
-use Rattle.std.proofs.Common.{◌≡◌, ℕ, ◌-◌, ◌≤◌, cond, ◌++◌, length, take, drop, is_ok, vec_items, ap, ◌∙◌, arith, length-drop}
+use Rattle.std.proofs.Common.{◌≡◌, ◌-◌, ◌≤◌, cond, ◌++◌, length, take, drop, is_ok, vec_items, ap, ◌∙◌, arith, length-drop}
 use Rattle.std.proofs.lemmas.List.{take_all}
 use Rattle.fields.specs.Numerals.{Bytes, numeral}
 use Rattle.quoting.proofs.Pushes.{added}

@@ -1,6 +1,6 @@
-use Rattle.std.proofs.Common.{◌≡◌, ℕ, [], ◌∷◌, ◌++◌, ℤ, pos, negsuc, nat_abs, ◌≤ℤ◌, IfOk, vec_items, ap, ◌∙◌, subst, arith, w64}
+use Rattle.std.proofs.Common.{◌≡◌, ℕ, [], ◌∷◌, ◌++◌, pos, negsuc, nat_abs, ◌≤ℤ◌, IfOk, vec_items, ap, ◌∙◌, subst, arith, w64}
 use Rattle.std.proofs.lemmas.Int.{ints, to_z-of_z}
-use Rattle.fields.specs.Numerals.{Bytes, numeral, signed}
+use Rattle.fields.specs.Numerals.{Bytes, numeral}
 use Rattle.quoting.proofs.Pushes.{added_onto, signed_below, signed_above}
 use Rattle.quoting.proofs.text.push_signed.Goals as goal
 use Rattle.quoting.proofs.text.push_signed.Goals.{then-number-lt0+in_ok-push, else-number-lt0}

@@ -1,6 +1,5 @@
-use Rattle.std.proofs.Common.{◌≡◌, ℕ, ◌+◌, ◌<◌, ◌≤◌, sym, subst, arith, rules, MatchResult}
+use Rattle.std.proofs.Common.{sym, subst, arith, rules, MatchResult}
 use Rattle.bookfile.specs.declared.entries.Entry.{Entry}
-use Rattle.bookfile.specs.declared.entries.Entry.TheVariants.{Outcome, Worth}
 use Rattle.bookfile.specs.Entries.{FitsSizes, FitsEntry}
 use Rattle.bookfile.specs.Advance.{PlacedWell, EntryEntered, EntryStopped}
 use Rattle.bookfile.proofs.Unfolding.{by_cases, made_so, entered_record, stopped_record, entered_worth, stopped_worth}
