@@ -3,7 +3,7 @@
 
   python3 scripts/damaged.py [PROGRAM] [COUNT] [SEED]     from the repository's root
 
-PROGRAM is target/bin/quote unless given (`rt check quote` makes it). Each of COUNT inputs (1,000) is one of
+PROGRAM is crates/quote/out/quote unless given (`rt run` in crates/quote makes it). Each of COUNT inputs (1,000) is one of
 crates/vectors/data with some bytes flipped, cut, doubled, inserted or swapped. The program below is written
 from docs/FORMAT.md, and not from the code. Prints each input that differs, and the count.
 """
@@ -165,7 +165,7 @@ def damaged(data, chance):
 
 
 def main():
-    program = sys.argv[1] if len(sys.argv) > 1 else "target/bin/quote"
+    program = sys.argv[1] if len(sys.argv) > 1 else "crates/quote/out/quote"
     count = int(sys.argv[2]) if len(sys.argv) > 2 else 1000
     chance = random.Random(int(sys.argv[3]) if len(sys.argv) > 3 else 2048)
     sources = [open(f, "rb").read() for f in sorted(glob.glob("crates/vectors/data/*/*.in"))]

@@ -52,7 +52,7 @@ def spelled(name):
     if name in OWN:
         return OWN[name]
     if re.match(r"[A-Z]", name):
-        return "".join(part[:1].upper() + part[1:] for part in name.split("-"))
+        return "".join(part[:1].upper() + part[1:] for part in re.split("[-_]", name))
     return name.replace("-", "_")
 
 
@@ -76,11 +76,18 @@ def defined(path, text):
             found.update(m.group(1).split())
         for m in re.finditer(r"λ ((?:[^\s().]+ ?)+)\.", line):
             found.update(m.group(1).split())
+        # parameters named at the left of a definition, and the names under which things are imported
+        m = re.match(r"\s*[^\s(){}:=]+((?: [^\s(){}:=]+)+) =$", line)
+        if m:
+            found.update(m.group(1).split())
+        found.update(re.findall(r" as ([A-Z][^\s,}]+)", line))
         m = re.match(r"\s*\| ([^\s:]+)(?: : .*)?$", line)
         if m:
             found.add(m.group(1))
     made = {n for n in found if re.search(r"[+·]|-via-", n)}
-    return {n for n in found - goals - made if "-" in n and NAME.fullmatch(n)}, {n for n in goals if "-" in n}
+    # a type that the toolchain's script turned as if it were a word
+    half = {n for n in found if re.match(r"[A-Z]\w*_", n)}
+    return {n for n in found - goals - made if ("-" in n or n in half) and NAME.fullmatch(n)}, {n for n in goals if "-" in n}
 
 
 def imported(text):

@@ -13,7 +13,7 @@ use Rattle.fields.proofs.Faulted.{line_faults_are_exact_lem}
 use Rattle.fields.proofs.Passing.{line_passes, misread_line}
 use Rattle.bookfile.specs.File.{WrittenBook, line_count, may_stand, form}
 use Rattle.bookfile.specs.File.State.{begin, middle, finished}
-use Rattle.bookfile.specs.FileFaults.{InTurn, Full, Goes_on, Faulty}
+use Rattle.bookfile.specs.FileFaults.{InTurn, Full, GoesOn, Faulty}
 use Rattle.bookfile.specs.FileFaults.Faulty.{first_line, later_line, out_of_order, no_space, after_end}
 use Rattle.bookfile.specs.Reading.{rises_after, record_from, enter_line, read_lines, read_on, reading, ReadingIsExact, OneBookAFile, OneFileABook}
 use Rattle.bookfile.proofs.Standing.{sound_begun, lawful_sound}
@@ -43,7 +43,7 @@ module _ (m w : ℕ) where
       (misread_line (may_stand (middle b)) (form (middle b)) bs n i h)
 
   -- a line with fields in order that is entered with a fault
-  line_entered : (b : WrittenBook) (k x : ℕ) (fs : List Bytes) (rest : Bytes) (f : Reported) → Goes_on b x fs rest → ((zs : List ℤ) → fs ≡ spelled (form (middle b) x) 0 zs → enter_line m w (middle b) k (x, zs) ≡ faulty f) → read_on m w (middle b) k rest ≡ faulty f
+  line_entered : (b : WrittenBook) (k x : ℕ) (fs : List Bytes) (rest : Bytes) (f : Reported) → GoesOn b x fs rest → ((zs : List ℤ) → fs ≡ spelled (form (middle b) x) 0 zs → enter_line m w (middle b) k (x, zs) ≡ faulty f) → read_on m w (middle b) k rest ≡ faulty f
   line_entered b k x fs rest f g h =
       let s = g.line in
       let l = joined 9 (x ∷ []) fs in

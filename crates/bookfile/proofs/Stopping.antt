@@ -12,7 +12,7 @@ use Rattle.fields.proofs.Faulted.{not_both, fault_same, cond_fail, then_fail, li
 use Rattle.fields.proofs.Passing.{LineGood, line_fine}
 use Rattle.bookfile.specs.File.{WrittenBook, State, line_count, may_stand, form}
 use Rattle.bookfile.specs.File.State.{begin, middle, finished}
-use Rattle.bookfile.specs.FileFaults.{Opens, Goes_on, Faulty}
+use Rattle.bookfile.specs.FileFaults.{Opens, GoesOn, Faulty}
 use Rattle.bookfile.specs.FileFaults.Faulty.{first_line, later_line, out_of_order, no_space, after_end}
 use Rattle.bookfile.specs.Reading.{rises_after, record_from, sized, plus_record, plus_worth, enter_line, read_line, read_rest, read_lines}
 use Rattle.bookfile.proofs.Standing.{begun_sound, lawful_sound}
@@ -27,7 +27,7 @@ module _ (m w : ℕ) where
   abbrev Stops : WrittenBook → (k : ℕ) → Bytes → Bytes → ℕ → List ℤ → Reported → Type 0
   Stops b k bs rest x zs f = Came m w (middle b) k bs → LineGood (may_stand (middle b)) (form (middle b)) rest (x, zs) → enter_line m w (middle b) k (x, zs) ≡ faulty f → Faulty m w (bs ++ rest) f
 
-  goes_on : (b : WrittenBook) (rest : Bytes) (x : ℕ) (zs : List ℤ) (g : LineGood (may_stand (middle b)) (form (middle b)) rest (x, zs)) → Goes_on b x g.fields rest
+  goes_on : (b : WrittenBook) (rest : Bytes) (x : ℕ) (zs : List ℤ) (g : LineGood (may_stand (middle b)) (form (middle b)) rest (x, zs)) → GoesOn b x g.fields rest
   goes_on b rest x zs g = record { line = g.line; letter = g.letter; fields = g.all_good }
 
   stops_record : (b : WrittenBook) (k : ℕ) (bs rest : Bytes) (zs : List ℤ) (f : Reported) → Stops b k bs rest 82 zs f

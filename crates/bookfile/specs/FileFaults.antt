@@ -41,7 +41,7 @@ abbrev pub Full : (m w : ℕ) → WrittenBook → ℕ → Type 0
 Full m w b l = ((l ≡ 82) × (m ≤ length b.records)) ⊎ ((l ≡ 67) × (w ≤ length b.worths))
 
 -- some bytes begin with a line that may stand after a book's, with fields in order
-pub record Goes_on (b : WrittenBook) (l : ℕ) (fs : List Bytes) (bs : Bytes) : Type 0 where
+pub record GoesOn (b : WrittenBook) (l : ℕ) (fs : List Bytes) (bs : Bytes) : Type 0 where
   pub line : Starts bs (l ∷ []) fs
   pub letter : LetterOf (may_stand (middle b)) l
   pub fields : AllGood (form (middle b) l) fs
@@ -50,8 +50,8 @@ pub record Goes_on (b : WrittenBook) (l : ℕ) (fs : List Bytes) (bs : Bytes) : 
 pub data Faulty (m w : ℕ) (bs : Bytes) : Reported → Type 0 where
   first_line : (n i : ℕ) → Misread (may_stand begin) (form begin) bs n i → Faulty m w bs (reported n 1 i)
   later_line : (b : WrittenBook) (rest : Bytes) (n i : ℕ) → Opens m w b rest bs → Misread (may_stand (middle b)) (form (middle b)) rest n i → Faulty m w bs (reported n (suc (line_count b)) i)
-  out_of_order : (b : WrittenBook) (rest : Bytes) (l : ℕ) (fs : List Bytes) → Opens m w b rest bs → Goes_on b l fs rest → ¬ InTurn b l fs → Faulty m w bs (reported 24 (suc (line_count b)) 0)
-  no_space : (b : WrittenBook) (rest : Bytes) (l : ℕ) (fs : List Bytes) → Opens m w b rest bs → Goes_on b l fs rest → InTurn b l fs → Full m w b l → Faulty m w bs (reported 25 (suc (line_count b)) 0)
+  out_of_order : (b : WrittenBook) (rest : Bytes) (l : ℕ) (fs : List Bytes) → Opens m w b rest bs → GoesOn b l fs rest → ¬ InTurn b l fs → Faulty m w bs (reported 24 (suc (line_count b)) 0)
+  no_space : (b : WrittenBook) (rest : Bytes) (l : ℕ) (fs : List Bytes) → Opens m w b rest bs → GoesOn b l fs rest → InTurn b l fs → Full m w b l → Faulty m w bs (reported 25 (suc (line_count b)) 0)
   after_end : (b : WrittenBook) (x : ℕ) (rest : Bytes) → LawfulBook b → HasRoom m w b → bs ≡ render b ++ (x ∷ rest) → Faulty m w bs (reported 26 (suc (suc (line_count b))) 0)
 
 -- accepted exactly where the bytes are those of a lawful list book that has room

@@ -100,7 +100,7 @@ alike_same c r parts f g h k worth shares amounts = λ i. record {
 }
 
 pub kinds_agree_lem : KindsAgree
-kinds_agree_lem c r parts shares amounts worths zero-amounts =
+kinds_agree_lem c r parts shares amounts worths zero_amounts =
     alike_same c r parts _ _ _ _ _
     (λ s x j a b d. ap (λ (f : Record). f.share) (found c r shares amounts s x j a b d) ∙ positive_share s x j _ _)
-    (λ s x j a b d. ap (λ (f : Record). f.amount) (found c r shares amounts s x j a b d) ∙ positive_amount s x j _ _ (zero-amounts (spot c r s x j) (digits_lt (digits_lt a b) d)))
+    (λ s x j a b d. ap (λ (f : Record). f.amount) (found c r shares amounts s x j a b d) ∙ positive_amount s x j _ _ (zero_amounts (spot c r s x j) (digits_lt (digits_lt a b) d)))

@@ -1,5 +1,5 @@
 -- Entries of tables and lists that keep their limits.
-use Rattle.std.specs.Prelude.{◌≡◌, ℕ, ◌+◌, ◌*◌, ◌<◌, ◌≤◌, ◌⊎◌, List, length, get_or, ℤ, pos, slice_index, slice_index_or, unsigned_abs}
+use Rattle.std.specs.Prelude.{◌≡◌, ℕ, ◌+◌, ◌*◌, ◌<◌, ◌≤◌, ◌⊎◌, List, length, ℤ, pos, slice_index, slice_index_or, unsigned_abs}
 use Rattle.books.specs.declared.record.Record.{Record}
 
 -- an amount or a worth that may be entered: a million at most, either way
@@ -27,10 +27,10 @@ pub record RecordFits (c r parts : ℕ) (e : Record) : Type 0 where
 
 -- the same of every record of a list, in two parts
 abbrev pub AllPlaced : (c r : ℕ) → List Record → Type 0
-AllPlaced c r es = (i : ℕ) → i < length es → ((get_or es i no_record).condition < c) × ((get_or es i no_record).remedy < r) × ((get_or es i no_record).next < c)
+AllPlaced c r es = (i : ℕ) → i < length es → ((slice_index_or es i no_record).condition < c) × ((slice_index_or es i no_record).remedy < r) × ((slice_index_or es i no_record).next < c)
 
 abbrev pub AllValued : (parts : ℕ) → List Record → Type 0
-AllValued parts es = (i : ℕ) → i < length es → (1 ≤ (get_or es i no_record).share) × ((get_or es i no_record).share ≤ parts) × SmallMoney (get_or es i no_record).amount
+AllValued parts es = (i : ℕ) → i < length es → (1 ≤ (slice_index_or es i no_record).share) × ((slice_index_or es i no_record).share ≤ parts) × SmallMoney (slice_index_or es i no_record).amount
 
 -- the order of records: by condition, remedy, next
 abbrev pub Rising : Record → Record → Type 0

@@ -65,7 +65,7 @@ module _ (c r parts : ℕ) (share : ℕ → ℕ → ℕ → ℕ) (amount : ℕ �
   }
 
 pub table_lawful : (c r parts : ℕ) (shares : List ℕ) (amounts worths : List ℤ) → Sizes c r parts → length shares ≡ c * r * c → length amounts ≡ c * r * c → length worths ≡ c → SharesFit parts shares → AllSmall amounts → AllSmall worths → Lawful (table_model c r parts shares amounts worths)
-table_lawful c r parts shares amounts worths sizes long-s long-a long-w fit small worth =
+table_lawful c r parts shares amounts worths sizes long_s long_a long_w fit small worth =
     alike_lawful c r parts _ _ _ sizes
     (λ s x j a b d. let l = digits_lt (digits_lt a b) d in fit (spot c r s x j) (omega arith))
     (λ s x j a b d. let l = digits_lt (digits_lt a b) d in small (spot c r s x j) (omega arith))

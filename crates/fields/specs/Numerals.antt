@@ -1,5 +1,5 @@
 -- Numbers in base ten.
-use Rattle.std.specs.Prelude.{◌≡◌, ℕ, zero, suc, ◌+◌, ◌-◌, ◌*◌, ◌/◌, ◌%◌, ◌<◌, ◌≤◌, cond, ◌↔◌, List, [], ◌∷◌, length, ℤ, pos, negsuc, neg_ℤ, ◌==◌, nat_lt, slice_index, slice_index_or}
+use Rattle.std.specs.Prelude.{◌≡◌, ℕ, zero, suc, ◌+◌, ◌-◌, ◌*◌, ◌/◌, ◌%◌, ◌<◌, ◌≤◌, cond, ◌↔◌, List, [], ◌∷◌, length, ℤ, pos, negsuc, neg_ℤ, ◌==◌, nat_lt, slice_index}
 
 abbrev pub Bytes : Type 0
 Bytes = List ℕ
@@ -22,7 +22,7 @@ pub record BaseTen (bs : Bytes) : Type 0 where
   pub some : 0 < length bs
   pub low : (i : ℕ) → i < length bs → 48 ≤ slice_index bs i
   pub high : (i : ℕ) → i < length bs → slice_index bs i ≤ 57
-  pub leading : slice_index_or bs 0 0 ≡ 48 → length bs ≡ 1
+  pub leading : slice_index bs 0 ≡ 48 → length bs ≡ 1
 
 abbrev pub value_after : ℕ → Bytes → ℕ
 value_after n [] = n

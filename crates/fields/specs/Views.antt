@@ -8,7 +8,7 @@ use Rattle.fields.specs.Checking.{Reported, reported, Checked}
 use Rattle.fields.specs.Checking.Checked.{good, faulty}
 use Rattle.fields.specs.declared.faults.FieldFault.{FieldFault}
 use Rattle.fields.specs.declared.faults.LineFault.{LineFault}
-use Rattle.fields.specs.declared.faults.LineFault.TheVariants.{Unended, Field as Of-field}
+use Rattle.fields.specs.declared.faults.LineFault.TheVariants.{Unended, Field as OfField}
 use Rattle.fields.specs.declared.parts.Field.{Field}
 use Rattle.fields.specs.declared.parts.Field.TheVariants.{Letter, Number, Other}
 
@@ -44,7 +44,7 @@ abbrev pub reported_line : LineFault → Reported
 reported_line e = reported (line_fault_number e) (line_fault_places e).0 (line_fault_places e).1
 
 -- a fault of a field keeps its number and places as a fault of its line
-pub converted_alike : (e : FieldFault) → reported_line (Of-field e) ≡ reported_field e
+pub converted_alike : (e : FieldFault) → reported_line (OfField e) ≡ reported_field e
 converted_alike e = refl
 
 -- what a call answers of a field is what is computed of it

@@ -67,7 +67,7 @@ fn laid<B: Book + Drop>(heap: Global, book: B) -> Result<Sheet<B>, Fail> {
 
 // A sheet over a sheet holds each amount once more.
 fn upper_amount<B: Book>(upper: &Sheet<Sheet<B>>, visit: usize) -> i64
-    ensures { result ≡ (noted (noted (B.Book.model upper.now.book.book) upper.now.book.notes.list.items) (upper.now.notes.list.items)).amount visit 0 1 0 }
+    ensures { result ≡ (noted (noted (B.Book.model upper.now.book.book) upper.now.book.notes.list.items) upper.now.notes.list.items).amount visit 0 1 0 }
 {
     upper.amount(visit, 0, 1, 0)
 }
