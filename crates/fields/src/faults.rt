@@ -45,9 +45,9 @@ impl FieldFault {
         ensures { result ≡ field_fault_places self.now }
     {
         match *self {
-            FieldFault::Letter { line, field } => (line, field, 0),
-            FieldFault::Malformed { line, field } => (line, field, 0),
-            FieldFault::Range { line, field } => (line, field, 0),
+            FieldFault::Letter { line, field }
+            | FieldFault::Malformed { line, field }
+            | FieldFault::Range { line, field } => (line, field, 0),
         }
     }
 }
@@ -68,8 +68,7 @@ impl LineFault {
     {
         match self {
             LineFault::Field(e) => e.places(),
-            LineFault::Count { line } => (*line, 0, 0),
-            LineFault::Unended { line } => (*line, 0, 0),
+            LineFault::Count { line } | LineFault::Unended { line } => (*line, 0, 0),
         }
     }
 }

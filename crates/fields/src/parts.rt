@@ -5,7 +5,7 @@ ghost use Rattle.fields.specs.Lines.{split};
 ghost use Rattle.fields.specs.Views.{bytes_of, rightly_told, lone_letter, CutField, LeftAfter};
 
 use super::faults::{FieldFault, LineFault};
-use super::lines::{Line, place_of};
+use super::lines::{Line, parted};
 
 // A field as a part of the line: a letter, what may be a number, or another part.
 #[derive(Clone, Copy)]
@@ -32,28 +32,15 @@ pub struct Fields<'a> {
     rest: &'a [u8],
 }
 
-// What a part is taken for.
-fn field_of(part: &[u8]) -> Field<'_>
-    ensures whole { bytes_of result ≡ part.now }
-    ensures told { rightly_told result ≡ true }
-{
-    match part {
-        [b] if b.is_ascii_alphabetic() => Field::Letter(char::from(*b)),
-        [b'0'..=b'9', ..] => Field::Number(part),
-        [b'-', ..] => Field::Number(part),
-        _ => Field::Other(part),
-    }
-}
+impl<'a> From<&'a [u8]> for Field<'a> {
+    ghost from_gives = { λ part f. (bytes_of f ≡ part.now) × (rightly_told f ≡ true) };
 
-// What stands after the byte at a place.
-fn past(bytes: &[u8], at: usize) -> &[u8]
-    requires { at ≤ length bytes.now }
-    ensures { result.now ≡ drop (at + 1) bytes.now }
-{
-    if at < bytes.len() {
-        &bytes[at + 1..]
-    } else {
-        &bytes[at..]
+    fn from(part: &'a [u8]) -> Field<'a> {
+        match part {
+            [b] if b.is_ascii_alphabetic() => Field::Letter(char::from(*b)),
+            [b'0'..=b'9' | b'-', ..] => Field::Number(part),
+            _ => Field::Other(part),
+        }
     }
 }
 
@@ -73,12 +60,9 @@ impl<'a> Fields<'a> {
         ensures field { CutField self.entry.line self.entry.place self.entry.rest.now result.0.line result.0.place result.0.field }
         ensures after { LeftAfter self.entry.line self.entry.place self.entry.rest.now result.1.line result.1.place result.1.rest.now }
     {
-        let rest = self.rest;
-        let line = self.line;
-        let place = self.place;
-        let at = place_of(b'\t', rest);
-        let field = field_of(&rest[0..at]);
-        let after = past(rest, at);
+        let Fields { line, place, rest } = self;
+        let (part, after) = parted(b'\t', rest).unwrap_or((rest, &[]));
+        let field = Field::from(part);
         (
             Placed { line, place, field },
             Fields {
@@ -94,12 +78,7 @@ impl<'a> Fields<'a> {
 pub fn counted(line: Line<'_>, after: usize) -> Result<(), LineFault>
     ensures { MatchResult result (λ _. length (split 9 line.entry.text.now).1 ≡ after) (λ e. (e ≡ LineFault.Count line.entry.number) × (length (split 9 line.entry.text.now).1 ≢ after)) }
 {
-    let mut tabs: usize = 0;
-    for b in line.text {
-        if *b == b'\t' {
-            tabs += 1;
-        }
-    }
+    let tabs = line.text.iter().filter(|b| **b == b'\t').count();
     if tabs == after {
         Ok(())
     } else {

@@ -1,19 +1,13 @@
+use super::faults::FieldFault;
 use super::lines::Line;
 use super::numbers::{natural, signed_number};
-use super::parts::{Fields, Placed};
+use super::parts::Fields;
 
 // The number of the fault, or 0, and the number read.
-fn from_zero(field: Placed<'_>) -> (u32, u32) {
-    match natural(field, 0, 1_000_000) {
+fn outcome<T: Default>(read: Result<T, FieldFault>) -> (u32, T) {
+    match read {
         Ok(n) => (0, n),
-        Err(e) => (e.number(), 0),
-    }
-}
-
-fn either_way(field: Placed<'_>) -> (u32, i64) {
-    match signed_number(field, 1_000_000) {
-        Ok(z) => (0, z),
-        Err(e) => (e.number(), 0),
+        Err(e) => (e.number(), T::default()),
     }
 }
 
@@ -40,8 +34,11 @@ fn numbers_at_their_limits(rt: HostRuntime) {
     ];
     for (fault, number, signed_fault, signed) in answers {
         let (field, rest) = fields.cut();
-        assert_eq!(rt; from_zero(field), (fault, number));
-        assert_eq!(rt; either_way(field), (signed_fault, signed));
+        assert_eq!(rt; outcome(natural(field, 0, 1_000_000)), (fault, number));
+        assert_eq!(rt;
+            outcome(signed_number(field, 1_000_000)),
+            (signed_fault, signed)
+        );
         fields = rest;
     }
 }
