@@ -8,7 +8,7 @@ use Rattle.fields.specs.Kinds.Kind.{one_of}
 use Rattle.fields.specs.Checking.{reported, is_letter, check_field}
 use Rattle.fields.specs.Checking.Checked.{faulty}
 use Rattle.fields.specs.Views.{lone_letter}
-use Rattle.fields.proofs.CodeNumerals.{same_sound}
+use Rattle.fields.proofs.Digits.{same_sound}
 
 -- these are ASCII letters
 abbrev pub letters : Bytes → Bool

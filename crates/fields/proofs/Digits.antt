@@ -86,7 +86,7 @@ numeral_more d x h g =
     let r : n % 10 ≡ x = omega arith in
     cond-false (ltb n 10) _ _ (le-ltb n 10 (omega arith)) ∙ (ap (λ y. digits_onto n y ((48 + n % 10) ∷ [])) q ∙ (ap (λ y. digits_onto n d ((48 + y) ∷ [])) r ∙ onto_append n (suc d) d [] ((48 + x) ∷ []) (omega arith) (omega arith)))
 
-abbrev Digit : ℕ → Type 0
+abbrev pub Digit : ℕ → Type 0
 Digit x = (48 ≤ x) × (x ≤ 57)
 
 -- digits after a number that is not 0 stand after its numeral
@@ -98,7 +98,7 @@ numeral_after (x ∷ xs) d h a =
     let e : 48 + (x - 48) ≡ x = omega arith in
     numeral_after xs (d * 10 + (x - 48)) (omega arith) a.1 ∙ (ap (λ y. y ++ xs) (numeral_more d (x - 48) h (omega arith)) ∙ (ap (λ y. (numeral d ++ (y ∷ [])) ++ xs) e ∙ append_assoc (numeral d) (x ∷ []) xs))
 
-numeral_back : (bs : Bytes) → BaseTen bs → bs ≡ numeral (value bs)
+pub numeral_back : (bs : Bytes) → BaseTen bs → bs ≡ numeral (value bs)
 numeral_back [] b = absurd (omega (arith, b.some))
 numeral_back (x ∷ xs) b = ⊎_elim zero_alone leads (cases_eq x 48)
   where

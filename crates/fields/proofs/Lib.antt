@@ -6,5 +6,6 @@ pub mod Passing
 pub mod Writing
 pub mod CodeLines
 pub mod CodeNumerals
+pub mod CodeFolds
 pub mod CodeNumbers
 pub mod CodeLetters

@@ -13,27 +13,22 @@ fn decimal(part: &[u8]) -> Option<u64>
     ensures { MatchOption result (BaseTen part.now → ⊥) (λ n. BaseTen part.now × (n ≡ min (value part.now) (2 ^ 64 - 1))) }
 {
     match part {
-        [] => return None,
-        [b'0', _, ..] => return None,
-        _ => {}
+        [] | [b'0', _, ..] => None,
+        _ => part.iter().try_fold(0u64, |sum, b| match *b {
+            b'0'..=b'9' => Some(sum.saturating_mul(10).saturating_add(u64::from(*b - b'0'))),
+            _ => None,
+        }),
     }
-    let mut sum: u64 = 0;
-    for b in part {
-        match *b {
-            b'0'..=b'9' => sum = sum.saturating_mul(10).saturating_add(u64::from(*b - b'0')),
-            _ => return None,
-        }
-    }
-    Some(sum)
 }
 
-// The number from `low` to `high` that the part of a field writes.
-fn limited(line: usize, place: usize, part: &[u8], low: u32, high: u32) -> Result<u32, FieldFault>
-    ensures read { Answers (check_field line place (from_to low high) part.now) result }
+// The number from `low` to `high` that a part of the field writes.
+fn limited(field: Placed<'_>, part: &[u8], low: u32, high: u32) -> Result<u32, FieldFault>
+    ensures read { Answers (check_field field.entry.line field.entry.place (from_to low high) part.now) result }
     ensures bound { IfOk result (λ n. (low ≤ n) × (n ≤ high)) }
 {
+    let Placed { line, place, .. } = field;
     match decimal(part) {
-        Some(n) if u64::from(low) <= n && n <= u64::from(high) => Ok(n as u32),
+        Some(n) if (u64::from(low)..=u64::from(high)).contains(&n) => Ok(n as u32),
         Some(_) => Err(FieldFault::Range { line, field: place }),
         None => Err(FieldFault::Malformed { line, field: place }),
     }
@@ -44,10 +39,9 @@ pub fn natural(field: Placed<'_>, low: u32, high: u32) -> Result<u32, FieldFault
     ensures read { Answers (check_field field.entry.line field.entry.place (from_to low high) (bytes_of field.entry.field)) result }
     ensures bound { IfOk result (λ n. (low ≤ n) × (n ≤ high)) }
 {
-    let line = field.line;
-    let place = field.place;
+    let Placed { line, place, .. } = field;
     match field.field {
-        Field::Number(part) => limited(line, place, part, low, high),
+        Field::Number(part) => limited(field, part, low, high),
         _ => Err(FieldFault::Malformed { line, field: place }),
     }
 }
@@ -57,16 +51,12 @@ pub fn signed_number(field: Placed<'_>, most: u32) -> Result<i64, FieldFault>
     ensures read { AnswersSigned (check_field field.entry.line field.entry.place (either_way most) (bytes_of field.entry.field)) result }
     ensures bound { IfOk result (λ z. unsigned_abs z ≤ most) }
 {
-    let line = field.line;
-    let place = field.place;
-    let Field::Number(part) = field.field else {
-        return Err(FieldFault::Malformed { line, field: place });
-    };
-    match part {
-        [b'-', digits @ ..] => match limited(line, place, digits, 0, most)? {
+    let Placed { line, place, .. } = field;
+    match field.field {
+        Field::Number([b'-', digits @ ..]) => match limited(field, digits, 0, most)? {
             0 => Err(FieldFault::Malformed { line, field: place }),
             n => Ok(-i64::from(n)),
         },
-        _ => Ok(i64::from(limited(line, place, part, 0, most)?)),
+        _ => Ok(i64::from(natural(field, 0, most)?)),
     }
 }

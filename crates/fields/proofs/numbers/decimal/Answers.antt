@@ -1,18 +1,17 @@
-use Rattle.std.proofs.Common.{◌≡◌, ◌+◌, ◌-◌, ◌*◌, ◌<◌, length, get_or, drop, sym, ap, ◌∙◌, arith, rules, below_more}
-use Rattle.std.proofs.lemmas.List.{drop_all}
-use Rattle.fields.specs.Numerals.{value_after}
-use Rattle.fields.proofs.CodeNumerals.{held, held_step}
+use Rattle.std.proofs.Common.{◌≡◌, ℕ, ◌<◌, length, get_or, List, MatchOption, subst, rules, tests}
+use Rattle.std.specs.List.{fold}
+use Rattle.std.specs.Iterator.Runs.{ItemsMapTo}
+use Rattle.fields.proofs.CodeFolds.{digits_run}
+use Rattle.fields.proofs.Digits.{Digit}
+use Rattle.fields.proofs.CodeNumerals.{more, read_on}
 use Rattle.fields.proofs.numbers.decimal.Goals as goal
-use Rattle.fields.proofs.numbers.decimal.Goals.{then-part-lt2, else-part-lt2+in_default-1}
+use Rattle.fields.proofs.numbers.decimal.Goals.{in_default-via-then-part-lt2, in_default-via-else-part-lt2+in_default-1}
 
-pub loop-b-preserved : goal.loop-b-preserved
-loop-b-preserved c =
-    let in' : c.loop-b.b-index < length c.args.part.now = omega arith in
-    let e : c.saturating_add-sum.result ≡ held (c.loop-b.sum * 10 + (get_or c.args.part.now c.loop-b.b-index 0 - 48)) = omega arith in
-    (omega arith, below_more _ _ c.loop-b.invariant.1 (omega arith, omega arith), c.loop-b.invariant.2 ∙ held_step c.loop-b.sum c.saturating_add-sum.result c.args.part.now c.loop-b.b-index in' e)
-
-pub returns : goal.returns
-returns c =
-    let t : held (value_after c.loop-b.sum (drop c.loop-b.b-index c.args.part.now)) ≡ held c.loop-b.sum = ap (λ ds. held (value_after c.loop-b.sum ds)) (drop_all c.loop-b.b-index c.args.part.now (omega arith)) in
-    let f : c.loop-b.sum ≡ held c.loop-b.sum = omega (arith, c.loop-b.invariant.0) in
-    (record { some = search rules; low = λ k h. (c.loop-b.invariant.1 k (omega arith)).0; high = λ k h. (c.loop-b.invariant.1 k (omega arith)).1; leading = λ e. elim c.if-part-lt2.branch [ then-part-lt2 w ↦ search rules | else-part-lt2+in_default-1 w ↦ search rules ] }, f ∙ sym (c.loop-b.invariant.2 ∙ t))
+pub returns-in_default : goal.returns-in_default
+returns-in_default c =
+    let bs = c.args.part.now in
+    let some : 0 < length bs = search rules in
+    let lead : get_or bs 0 0 ≡ 48 → length bs ≡ 1 = λ e. elim c.in_default.branch [ in_default-via-then-part-lt2 w ↦ search rules | in_default-via-else-part-lt2+in_default-1 w ↦ search rules ] in
+    let run = c.try_fold.ensures.runs in
+    let read : MatchOption c.try_fold.result ((k : ℕ) × (k < length bs) × ¬ Digit (get_or bs k 0)) (λ n. ((k : ℕ) → k < length bs → Digit (get_or bs k 0)) × (n ≡ fold more 0 bs)) = digits_run _ run.0 bs _ _ _ (subst (λ (xs : List ℕ). ItemsMapTo run.0 (λ y. y.now) xs) (search rules) (c.iter.ensures.runs run.0 run.0.seen)) run.2 (λ n x v f' k. search (rules, tests)) in
+    read_on bs c.try_fold.result some lead read

@@ -1,15 +1,18 @@
-use Rattle.std.proofs.Common.{inl, inr, arith}
+use Rattle.std.proofs.Common.{◌<◌, ◌≤◌, ◌⊎◌, arith, rules}
 use Rattle.fields.proofs.CodeNumbers.{number_good, number_range, number_ill}
 use Rattle.fields.proofs.numbers.limited.Goals as goal
 
 pub returns-in-Some : goal.returns-in-Some
-returns-in-Some c = let e = c.in-Some.ensures in record { read = number_good c.args.line c.args.place c.args.low c.args.high c.args.part.now c.in-Some.n e.0 e.1 (omega arith) (omega arith) (omega arith); bound = (omega arith, omega arith) }
+returns-in-Some c =
+    let e = c.in-Some.ensures in
+    let within : (c.args.low ≤ c.in-Some.n) × (c.in-Some.n ≤ c.args.high) = search rules in
+    record { read = number_good c.args.field.line c.args.field.place c.args.low c.args.high c.args.part.now c.in-Some.n e.0 e.1 within.0 within.1 (omega arith); bound = within }
 
 pub returns-in-Some-2 : goal.returns-in-Some-2
-returns-in-Some-2 c = let e = c.in-Some.ensures in record { read = number_range c.args.line c.args.place c.args.low c.args.high c.args.part.now c.in-Some.n e.0 e.1 (inr (omega arith)) (omega arith); bound = tt }
-
-pub returns-in-Some-2-2 : goal.returns-in-Some-2-2
-returns-in-Some-2-2 c = let e = c.in-Some.ensures in record { read = number_range c.args.line c.args.place c.args.low c.args.high c.args.part.now c.in-Some.n e.0 e.1 (inl (omega arith)) (omega arith); bound = tt }
+returns-in-Some-2 c =
+    let e = c.in-Some.ensures in
+    let out : (c.in-Some.n < c.args.low) ⊎ (c.args.high < c.in-Some.n) = search rules in
+    record { read = number_range c.args.field.line c.args.field.place c.args.low c.args.high c.args.part.now c.in-Some.n e.0 e.1 out (omega arith); bound = tt }
 
 pub returns-in-None : goal.returns-in-None
-returns-in-None c = record { read = number_ill c.args.line c.args.place c.args.low c.args.high c.args.part.now c.in-None.ensures; bound = tt }
+returns-in-None c = record { read = number_ill c.args.field.line c.args.field.place c.args.low c.args.high c.args.part.now c.in-None.ensures; bound = tt }
