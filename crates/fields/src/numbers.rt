@@ -22,6 +22,7 @@ fn decimal(part: &[u8]) -> Option<u64>
 }
 
 // The number from `low` to `high` that a part of the field writes.
+#[tactic(auto, using(crate::proofs::CodeNumbers::number_ill))]
 fn limited(field: Placed<'_>, part: &[u8], low: u32, high: u32) -> Result<u32, FieldFault>
     ensures read { Answers (check_field field.entry.line field.entry.place (from_to low high) part.now) result }
     ensures bound { IfOk result (λ n. (low ≤ n) × (n ≤ high)) }
@@ -35,6 +36,7 @@ fn limited(field: Placed<'_>, part: &[u8], low: u32, high: u32) -> Result<u32, F
 }
 
 // A number from `low` to `high`.
+#[tactic(auto, using(crate::proofs::CodeNumbers::unnumbered, crate::proofs::CodeNumbers::number_ill))]
 pub fn natural(field: Placed<'_>, low: u32, high: u32) -> Result<u32, FieldFault>
     ensures read { Answers (check_field field.entry.line field.entry.place (from_to low high) (bytes_of field.entry.field)) result }
     ensures bound { IfOk result (λ n. (low ≤ n) × (n ≤ high)) }

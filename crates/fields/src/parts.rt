@@ -75,6 +75,7 @@ impl<'a> Fields<'a> {
 }
 
 // Declines a line that has not just so many fields after its letter.
+#[tactic(auto, using(crate::proofs::CodeLines::parts_after))]
 pub fn counted(line: Line<'_>, after: usize) -> Result<(), LineFault>
     ensures { MatchResult result (λ _. length (split 9 line.entry.text.now).1 ≡ after) (λ e. (e ≡ LineFault.Count line.entry.number) × (length (split 9 line.entry.text.now).1 ≢ after)) }
 {

@@ -1,5 +1,5 @@
 use Rattle.std.proofs.Common.{◌<◌, ◌≤◌, ◌⊎◌, arith, rules}
-use Rattle.fields.proofs.CodeNumbers.{number_good, number_range, number_ill}
+use Rattle.fields.proofs.CodeNumbers.{number_good, number_range}
 use Rattle.fields.proofs.numbers.limited.Goals as goal
 
 pub returns-in-Some : goal.returns-in-Some
@@ -13,6 +13,3 @@ returns-in-Some-2 c =
     let e = c.in-Some.ensures in
     let out : (c.in-Some.n < c.args.low) ⊎ (c.args.high < c.in-Some.n) = search rules in
     record { read = number_range c.args.field.line c.args.field.place c.args.low c.args.high c.args.part.now c.in-Some.n e.0 e.1 out (omega arith); bound = tt }
-
-pub returns-in-None : goal.returns-in-None
-returns-in-None c = record { read = number_ill c.args.field.line c.args.field.place c.args.low c.args.high c.args.part.now c.in-None.ensures; bound = tt }
