@@ -15,7 +15,7 @@ use Rattle.fields.proofs.CodeNumerals.{more}
 
 -- the item at a place where there is one
 item_of : {P : Bor ℕ → Type 0} (o : Option (Bor ℕ)) (d : ℕ) → option_map (λ y. y.now) o ≡ Some d → IfSome o P → (x : Bor ℕ) × (x.now ≡ d) × P x
-item_of None d e h = absurd (let z : ◌≡◌ {A = ℕ} 0 1 = cc in omega arith)
+item_of None d e h = absurd cc
 item_of (Some x) d e h = (x, (cc), h)
 
 some_item : {P : Bor ℕ → Type 0} (o : Option (Bor ℕ)) (d : ℕ) → option_map (λ y. y.now) o ≡ Some d → IsSomeAnd o P → (x : Bor ℕ) × (x.now ≡ d) × P x
@@ -33,11 +33,11 @@ taken n x = cond (leb 48 x && leb x 57) (Some (more n x)) None
 taken_some : (n x m : ℕ) → taken n x ≡ Some m → Digit x × (m ≡ more n x)
 taken_some n x m = cond_both (leb 48 x && leb x 57) _ _ (λ (o : Option ℕ). o ≡ Some m → Digit x × (m ≡ more n x))
     (λ t e. let p = and_parts (leb 48 x) (leb x 57) t in ((leb-true 48 x p.0, leb-true x 57 p.1), cc))
-    (λ t e. absurd (let z : ◌≡◌ {A = ℕ} 0 1 = cc in omega arith))
+    (λ t e. absurd cc)
 
 taken_none : (n x : ℕ) → taken n x ≡ None → ¬ Digit x
 taken_none n x = cond_both (leb 48 x && leb x 57) _ _ (λ (o : Option ℕ). o ≡ None → ¬ Digit x)
-    (λ t e d. let z : ◌≡◌ {A = ℕ} 0 1 = cc in omega arith)
+    (λ t e d. cc)
     (λ t e d. both_ways (leb 48 x && leb x 57) t (and_from (leb 48 x) (leb x 57) (le-leb 48 x d.0) (le-leb x 57 d.1)))
 
 module _ {S F : Type 0} (E : Type 0) {steps : S → Option (Bor ℕ) → S → Type 0} (p : Run steps) (bs : Bytes) (g : Mut F (ℕ × (Bor ℕ × Unit {0})) (Option ℕ)) (f : F) (r : Option ℕ) where

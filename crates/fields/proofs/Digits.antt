@@ -1,5 +1,5 @@
 -- A numeral and its value determine each other.
-use Rattle.std.proofs.Common.{◌≡◌, ℕ, zero, suc, ◌+◌, ◌-◌, ◌*◌, ◌/◌, ◌%◌, ◌<◌, ◌≤◌, Bool, true, false, cond, eqb, ltb, [], ◌∷◌, ◌++◌, length, get_or, ℤ, pos, negsuc, neg_ℤ, sym, refl, ap, ◌∙◌, subst, ⊎_elim, append_assoc, append-nil, arith}
+use Rattle.std.proofs.Common.{◌≡◌, ℕ, zero, suc, ◌+◌, ◌-◌, ◌*◌, ◌/◌, ◌%◌, ◌<◌, ◌≤◌, true, cond, eqb, ltb, [], ◌∷◌, ◌++◌, length, get_or, ℤ, pos, negsuc, neg_ℤ, sym, refl, ap, ◌∙◌, subst, ⊎_elim, append_assoc, append-nil, arith}
 use Rattle.std.proofs.lemmas.Bool.{ltb-true, ltb-false, eqb-true, ne_eqb, eq-eqb, and_parts, and_from, cond_both, cond-true, cond-false, le-ltb, lt-ltb, cases_eq}
 use Rattle.fields.specs.Numerals.{Bytes, digits_onto, numeral, signed, value_after, value, signed_value, BaseTen, NumeralsAreBaseTen}
 use Rattle.fields.specs.Lines.{same}
@@ -63,8 +63,8 @@ signed_is f z e = ap signed_value e ∙ value_signed z
 
 pub same_sound : (xs ys : Bytes) → same xs ys ≡ true → xs ≡ ys
 same_sound [] [] e = refl
-same_sound [] (y ∷ ys) e = let z : ◌≡◌ {A = Bool} true false = cc in cc
-same_sound (x ∷ xs) [] e = let z : ◌≡◌ {A = Bool} true false = cc in cc
+same_sound [] (y ∷ ys) e = absurd cc
+same_sound (x ∷ xs) [] e = absurd cc
 same_sound (x ∷ xs) (y ∷ ys) e = let p = and_parts (eqb x y) (same xs ys) e in let q = eqb-true x y p.0 in let r = same_sound xs ys p.1 in cc
 
 pub same_itself : (xs : Bytes) → same xs xs ≡ true

@@ -16,7 +16,7 @@ pub fault_same : {A : Type 0} (x z : Reported) → ◌≡◌ {A = Checked A} (fa
 fault_same x z h = cc
 
 pub not_both : {A : Type 0} (a : A) (f : Reported) → good a ≡ faulty f → ⊥
-not_both a f h = let q : ◌≡◌ {A = ℕ} 0 1 = cc in omega arith
+not_both a f h = cc
 
 pub cond_fail : {A : Type 0} (t : Bool) (x : Checked A) (g f : Reported) → cond t x (faulty g) ≡ faulty f → ((t ≡ false) × (f ≡ g)) ⊎ ((t ≡ true) × (x ≡ faulty f))
 cond_fail true x g f h = inr (refl, h)

@@ -16,11 +16,11 @@ good_same x z h = cc
 
 pub cond_good : {A : Type 0} (t : Bool) (x : Checked A) (g : Reported) (z : A) → cond t x (faulty g) ≡ good z → (t ≡ true) × (x ≡ good z)
 cond_good true x g z h = (refl, h)
-cond_good false x g z h = let q : ◌≡◌ {A = ℕ} 0 1 = cc in absurd (omega arith)
+cond_good false x g z h = absurd cc
 
 pub then_good : {A B : Type 0} (x : Checked A) (f : A → Checked B) (b : B) → and_then x f ≡ good b → (a : A) × (x ≡ good a) × (f a ≡ good b)
 then_good (good a) f b h = (a, refl, h)
-then_good (faulty g) f b h = let q : ◌≡◌ {A = ℕ} 0 1 = cc in absurd (omega arith)
+then_good (faulty g) f b h = absurd cc
 
 -- neither a tab nor a newline
 abbrev pub Dark : ℕ → Type 0
@@ -60,11 +60,11 @@ bytes_for (from_to a b) z = numeral (nat_abs z)
 bytes_for (either_way b) z = signed z
 
 letter_sound : (ls f : Bytes) → is_letter ls f ≡ true → f ≡ get_or f 0 0 ∷ []
-letter_sound [] f h = let q : ◌≡◌ {A = ℕ} 0 1 = cc in absurd (omega arith)
+letter_sound [] f h = absurd cc
 letter_sound (l ∷ ls) f h = ⊎_elim (λ e. let q = same_sound f (l ∷ []) e in q ∙ ap (λ x. get_or x 0 0 ∷ []) (sym q)) (letter_sound ls f) (or_cases (same f (l ∷ [])) (is_letter ls f) h)
 
 pub letter_one : (ls : Bytes) (x : ℕ) → is_letter ls (x ∷ []) ≡ true → LetterOf ls x
-letter_one [] x h = let q : ◌≡◌ {A = ℕ} 0 1 = cc in absurd (omega arith)
+letter_one [] x h = absurd cc
 letter_one (l ∷ ls) x h = ⊎_elim (λ e. inl (let q = same_sound (x ∷ []) (l ∷ []) e in cc)) (λ e. inr (letter_one ls x e)) (or_cases (same (x ∷ []) (l ∷ [])) (is_letter ls (x ∷ [])) h)
 
 pub field_sound : (t : Kind) (k i : ℕ) (f : Bytes) (z : ℤ) → check_field k i t f ≡ good z → f ≡ bytes_for t z
@@ -97,8 +97,8 @@ Says ts fs i zs = (fs ≡ spelled ts i zs) × Bounded ts i zs
 
 pub fields_say : (ts : List Kind) (fs : List Bytes) (k i : ℕ) (pre ys : List ℤ) → check_fields k i ts fs ≡ good ys → Says ts fs (length pre) (pre ++ ys)
 fields_say [] [] k i pre ys h = (refl, tt)
-fields_say [] (f ∷ fs) k i pre ys h = let q : ◌≡◌ {A = ℕ} 0 1 = cc in absurd (omega arith)
-fields_say (t ∷ ts) [] k i pre ys h = let q : ◌≡◌ {A = ℕ} 0 1 = cc in absurd (omega arith)
+fields_say [] (f ∷ fs) k i pre ys h = absurd cc
+fields_say (t ∷ ts) [] k i pre ys h = absurd cc
 fields_say (t ∷ ts) (f ∷ fs) k i pre ys h =
     let a = then_good (check_field k i t f) (λ z. and_then (check_fields k (suc i) ts fs) (λ zs. good (z ∷ zs))) ys h in
     let z = a.0 in
@@ -125,11 +125,8 @@ line_sound k ls ts l y h =
     let v = a.0 in
     let b = cond_good (eqb (length fs) (length (ts (nat_abs v)))) (and_then (check_fields k 2 (ts (nat_abs v)) fs) (λ zs. good (nat_abs v, zs))) (reported 21 k 0) y a.2 in
     let d = then_good (check_fields k 2 (ts (nat_abs v)) fs) (λ zs. good (nat_abs v, zs)) y b.1 in
-    let e : (nat_abs v, d.0) ≡ y = pair_same (nat_abs v, d.0) y d.2 in
+    let e : (nat_abs v, d.0) ≡ y = good_same (nat_abs v, d.0) y d.2 in
     let p = field_sound (one_of ls) k 1 f v a.1 in
     let q = cond_good (is_letter ls f) (good (pos (get_or f 0 0))) (reported 20 k 1) v a.1 in
     let s = fields_say (ts (nat_abs v)) fs k 2 [] d.0 d.1 in
     subst (LineRead ls ts l) e (record { letter = subst (λ x. is_letter ls x ≡ true) p q.0; whole = sym (joined_split 9 l) ∙ (ap (λ x. joined 9 x fs) p ∙ ap (joined 9 (nat_abs v ∷ [])) s.0); bounded = s.1 })
-  where
-    pair_same : (x z : ℕ × List ℤ) → good x ≡ good z → x ≡ z
-    pair_same x z h = cc

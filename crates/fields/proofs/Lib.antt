@@ -8,4 +8,3 @@ pub mod CodeLines
 pub mod CodeNumerals
 pub mod CodeFolds
 pub mod CodeNumbers
-pub mod CodeLetters

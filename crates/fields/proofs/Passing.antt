@@ -10,13 +10,13 @@ use Rattle.fields.specs.Checking.{reported, and_then, is_letter, check_field, ch
 use Rattle.fields.specs.Checking.Checked.{good}
 use Rattle.fields.proofs.Digits.{All}
 use Rattle.fields.proofs.Splitting.{starts, started}
-use Rattle.fields.proofs.Faultless.{cond_good, then_good, letter_one, field_sound, fields_say, spelled}
+use Rattle.fields.proofs.Faultless.{good_same, cond_good, then_good, letter_one, field_sound, fields_say, spelled}
 use Rattle.fields.proofs.Faulted.{field_fine, field_passes, check_counted, line_started, letter_passes}
 
 fields_fine : (ts : List Kind) (fs : List Bytes) (k i : ℕ) (ys : List ℤ) → check_fields k i ts fs ≡ good ys → AllGood ts fs
 fields_fine [] [] k i ys h = (refl, λ j q. absurd (omega arith))
-fields_fine [] (f ∷ fs) k i ys h = let q : ◌≡◌ {A = ℕ} 0 1 = cc in absurd (omega arith)
-fields_fine (t ∷ ts) [] k i ys h = let q : ◌≡◌ {A = ℕ} 0 1 = cc in absurd (omega arith)
+fields_fine [] (f ∷ fs) k i ys h = absurd cc
+fields_fine (t ∷ ts) [] k i ys h = absurd cc
 fields_fine (t ∷ ts) (f ∷ fs) k i ys h =
     let a = then_good (check_field k i t f) (λ z. and_then (check_fields k (suc i) ts fs) (λ zs. good (z ∷ zs))) ys h in
     let b = then_good (check_fields k (suc i) ts fs) (λ zs. good (a.0 ∷ zs)) ys a.2 in
@@ -50,16 +50,13 @@ line_fine k ls ts l onw y a h =
     let q = cond_good (is_letter ls g) (good (pos (get_or g 0 0))) (reported 20 k 1) u.0 u.1 in
     let b = cond_good (eqb (length gs) (length (ts x))) (and_then (check_fields k 2 (ts x) gs) (λ zs. good (x, zs))) (reported 21 k 0) y u.2 in
     let d = then_good (check_fields k 2 (ts x) gs) (λ zs. good (x, zs)) y b.1 in
-    subst (LineGood ls ts (l ++ (10 ∷ onw))) (pair_same (x, d.0) y d.2) (record {
+    subst (LineGood ls ts (l ++ (10 ∷ onw))) (good_same (x, d.0) y d.2) (record {
       fields = gs;
       line = subst (λ z. Starts (l ++ (10 ∷ onw)) z gs) p (starts l onw a);
       letter = letter_one ls x (subst (λ z. is_letter ls z ≡ true) p q.0);
       all_good = fields_fine (ts x) gs k 2 d.0 d.1;
       spell = (fields_say (ts x) gs k 2 [] d.0 d.1).0;
     })
-  where
-    pair_same : (x z : ℕ × List ℤ) → good x ≡ good z → x ≡ z
-    pair_same x z h = cc
 
 pub line_passes : (k : ℕ) (ls : Bytes) (ts : ℕ → List Kind) (l onw : Bytes) (x : ℕ) (fs : List Bytes) → All (λ y. ¬ (y ≡ 10)) l → Starts (l ++ (10 ∷ onw)) (x ∷ []) fs → LetterOf ls x → AllGood (ts x) fs → (zs : List ℤ) × (check_line k ls ts l ≡ good (x, zs)) × (fs ≡ spelled (ts x) 0 zs)
 line_passes k ls ts l onw x fs a s o g =
