@@ -1,5 +1,5 @@
 // The fields of a line, parted by tabs.
-ghost use Rattle.std.specs.Prelude.{◌≡◌, ◌+◌, ◌≤◌, true, false, length, drop, MatchResult, ◌≢◌};
+ghost use Rattle.std.specs.Prelude.{◌≡◌, ◌≢◌, true, false, length, MatchResult};
 ghost use Rattle.std.specs.Char.{is_ascii_alphabetic};
 ghost use Rattle.fields.specs.Lines.{split};
 ghost use Rattle.fields.specs.Views.{bytes_of, rightly_told, lone_letter, CutField, LeftAfter};
