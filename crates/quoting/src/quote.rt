@@ -29,8 +29,8 @@ fn planned<B: Book>(
     ensures { PlanAnswers (criterion asked.by) (B.model book.now) asked.visits result values.old values.new remedies.old remedies.new }
 {
     match asked.by {
-        By::Mean => plan_totals::<Mean, B>(book, asked.visits, values, remedies),
-        By::Floor => plan_totals::<Floor, B>(book, asked.visits, values, remedies),
+        By::Mean => plan_totals::<Mean, _>(book, asked.visits, values, remedies),
+        By::Floor => plan_totals::<Floor, _>(book, asked.visits, values, remedies),
     }
 }
 

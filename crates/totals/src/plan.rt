@@ -7,6 +7,7 @@ use model::Book;
 use planning::plan::plan;
 
 // Plans by a criterion of totals. The values are the totals of the plan, and no policy has greater ones.
+#[tactic(auto, using(crate::proofs::Behind::planned_totals, crate::proofs::Behind::planned_greatest))]
 pub fn plan_totals<C: Totalled, B: Book>(
     book: &B,
     visits: usize,
