@@ -10,10 +10,11 @@ use super::tables::{Quote, Tables};
 use bookfile::read::read;
 use books::list::ListBook;
 use checks::refusal::PlanRefusal;
+use criteria::floor::Floor;
+use criteria::mean::Mean;
 use fields::lines::cut_line;
 use model::Book;
-use totals::by_floor::plan_floor;
-use totals::by_mean::plan_mean;
+use totals::plan::plan_totals;
 
 // The most bytes that an input may have.
 pub const LONGEST: usize = 32768;
@@ -28,8 +29,8 @@ fn planned<B: Book>(
     ensures { PlanAnswers (criterion asked.by) (B.model book.now) asked.visits result values.old values.new remedies.old remedies.new }
 {
     match asked.by {
-        By::Mean => plan_mean(book, asked.visits, values, remedies),
-        By::Floor => plan_floor(book, asked.visits, values, remedies),
+        By::Mean => plan_totals::<Mean, _>(book, asked.visits, values, remedies),
+        By::Floor => plan_totals::<Floor, _>(book, asked.visits, values, remedies),
     }
 }
 

@@ -1,5 +1,6 @@
-// Plans and judgements by the mean and by the floor, with what stands behind their numbers.
+// Plans and judgements by a criterion of totals, the mean or the floor, with what stands behind their numbers.
 #![tactic(auto)]
 
-pub mod by_floor;
-pub mod by_mean;
+pub mod judge;
+pub mod plan;
+pub mod totalled;
