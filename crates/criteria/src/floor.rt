@@ -19,6 +19,7 @@ impl Criterion for Floor {
 
     ghost laws = { λ _. floor_lawful };
 
+    // closing, close and good are the mean's too: a trait that both share would be longer than these lines.
     fn closing(&self, worth: i64) -> i64 {
         worth
     }

@@ -12,24 +12,11 @@ pub struct Mean {
     ghost kept: { PowersOf base powers },
 }
 
-// base ^ exponent, held within 64 bits with a sign.
+// base ^ exponent, held within 64 bits with a sign: from 63 on it is 0, 1 or the highest.
 fn held_power(base: u32, exponent: usize) -> i64
     ensures { result ≡ hold (pos (base ^ exponent)) }
 {
-    if base == 0 {
-        return if exponent == 0 { 1 } else { 0 };
-    }
-    if base == 1 {
-        return 1;
-    }
-    if exponent >= 63 {
-        return i64::MAX;
-    }
-    let mut power: i64 = 1;
-    for done in 0..exponent {
-        power = power.saturating_mul(i64::from(base));
-    }
-    power
+    i64::from(base).saturating_pow(exponent.min(63) as u32)
 }
 
 impl Mean {
@@ -37,13 +24,9 @@ impl Mean {
     pub fn of(parts: u32) -> Mean
         ensures { (result.base ≡ parts) × PowersOf parts result.powers }
     {
-        let mut powers = [0; 48];
-        for exponent in 0..48 {
-            powers[exponent] = held_power(parts, exponent);
-        }
         Mean {
             base: parts,
-            powers,
+            powers: std::array::from_fn(|exponent| held_power(parts, exponent)),
         }
     }
 
@@ -51,10 +34,10 @@ impl Mean {
     fn power(&self, parts: u32, exponent: usize) -> i64
         ensures { result ≡ hold (pos (parts ^ exponent)) }
     {
-        if parts == self.base && exponent < 48 {
-            return self.powers[exponent];
+        match self.powers.get(exponent) {
+            Some(kept) if parts == self.base => *kept,
+            _ => held_power(parts, exponent),
         }
-        held_power(parts, exponent)
     }
 }
 

@@ -1,15 +1,10 @@
 -- The book of two conditions is lawful.
-use Rattle.std.specs.Prelude.{◌≡◌, ℕ, ◌<◌, ◌≤◌, Bool, true, false, cond, ◌&&◌, T, pos, ◌==◌, nat_le, nat_lt, refl}
+use Rattle.std.specs.Prelude.{◌≡◌, ℕ, ◌<◌, ◌≤◌, Bool, true, false, cond, ◌&&◌, T, pos, ◌==◌, refl}
 use Rattle.std.proofs.Common.{sym, subst, arith}
-use Rattle.std.proofs.lemmas.Bool.{leb-true, ltb-true, eqb-true}
+use Rattle.std.proofs.lemmas.Bool.{eqb-true, and_parts}
+use Rattle.std.proofs.lemmas.Bool.Decides.{nat_tests}
 use Rattle.model.specs.Model.{Lawful, Money, Inside, offers}
 use Rattle.trials.specs.Switch.{inside, switch}
-
-both : (a b : Bool) → T (a && b) → T a × T b
-both true true t = (tt, tt)
-both true false t = absurd t
-both false true t = absurd t
-both false false t = absurd t
 
 is_true : (b : Bool) → T b → b ≡ true
 is_true true t = refl
@@ -17,10 +12,8 @@ is_true false t = absurd t
 
 within : (n s r : ℕ) → T (inside n s r) → Inside (offers switch) n s r
 within n s r t =
-    let a = both (nat_le 1 n) _ t in
-    let b = both (nat_le n 48) _ a.1 in
-    let c = both (nat_lt s 2) _ b.1 in
-    record { first_visit = leb-true 1 n (is_true _ a.0); last_visit = leb-true n 48 (is_true _ b.0); some_condition = ltb-true s 2 (is_true _ c.0); some_remedy = ltb-true r 2 (is_true _ c.1) }
+    let all = is_true (inside n s r) t in
+    record { first_visit = grind (arith, nat_tests); last_visit = grind (arith, nat_tests); some_condition = grind (arith, nat_tests); some_remedy = grind (arith, nat_tests) }
 
 counted : (b : Bool) → 0 < cond b 1 0 → T b
 counted true l = tt
@@ -51,9 +44,10 @@ switch_lawful = record {
   worth_fits = λ s. small (s == 1);
   offered_inside = within;
   share_inside = λ n s r j l.
-      let a = both (inside n s r) (j == r) (counted _ l) in
-      let w = within n s r a.0 in
-      (w, subst (λ (x : ℕ). x < 2) (sym (eqb-true j r (is_true _ a.1))) w.some_remedy);
+      let a = and_parts (inside n s r) (j == r) (is_true _ (counted _ l)) in
+      let w = within n s r (subst T (sym a.0) tt) in
+      let same = eqb-true j r a.1 in
+      (w, omega arith);
   amount_inside = λ n s r j e. absurd (e refl);
   worth_inside = λ s e. let same : s ≡ 1 = eqb-true s 1 (is_true _ (worthy _ e)) in omega arith;
 }

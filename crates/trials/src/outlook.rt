@@ -3,8 +3,8 @@ ghost use Rattle.trials.specs.Outlook.{outlook, no_worse, outlook_lawful, indiff
 
 use criteria::criterion::Criterion;
 
-// Whether a lock is sure to end in a condition of some worth.
-#[derive(Clone, Copy, Debug, PartialEq)]
+// Whether a lock is sure to end in a condition of some worth; the better one is the greater.
+#[derive(Clone, Copy, Debug, PartialEq, Eq, PartialOrd, Ord)]
 pub enum Outlook {
     Doubtful,
     Sure,
@@ -46,10 +46,7 @@ impl Criterion for ByOutlook {
         later: Outlook,
         account: Outlook,
     ) -> Outlook {
-        match account {
-            Outlook::Sure => later,
-            Outlook::Doubtful => Outlook::Doubtful,
-        }
+        account.min(later)
     }
 
     fn close(&self, _parts: u32, account: Outlook) -> Outlook {
@@ -57,13 +54,7 @@ impl Criterion for ByOutlook {
     }
 
     fn good(&self, value: Outlook, other: Outlook) -> bool {
-        match value {
-            Outlook::Sure => true,
-            Outlook::Doubtful => match other {
-                Outlook::Sure => false,
-                Outlook::Doubtful => true,
-            },
-        }
+        value >= other
     }
 }
 

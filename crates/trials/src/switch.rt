@@ -25,7 +25,7 @@ impl Book for Switch {
     }
 
     fn offered(&self, visit: usize, condition: usize, remedy: usize) -> bool {
-        visit >= 1 && visit <= 48 && condition < 2 && remedy < 2
+        (1..=48).contains(&visit) && condition < 2 && remedy < 2
     }
 
     fn share(&self, visit: usize, condition: usize, remedy: usize, next: usize) -> u32 {
