@@ -3,7 +3,7 @@ pub mod Splitting
 pub mod Faultless
 pub mod Faulted
 pub mod Passing
-pub mod Writing
+pub mod Printed
 pub mod CodeLines
 pub mod CodeNumerals
 pub mod CodeFolds

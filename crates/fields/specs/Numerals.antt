@@ -1,5 +1,6 @@
 -- Numbers in base ten.
-use Rattle.std.specs.Prelude.{◌≡◌, ℕ, zero, suc, ◌+◌, ◌-◌, ◌*◌, ◌/◌, ◌%◌, ◌<◌, ◌≤◌, cond, ◌↔◌, List, [], ◌∷◌, length, ℤ, pos, negsuc, neg_ℤ, ◌==◌, nat_lt, slice_index}
+use Rattle.std.specs.Prelude.{◌≡◌, ℕ, zero, suc, ◌+◌, ◌-◌, ◌*◌, ◌/◌, ◌%◌, ◌^◌, ◌<◌, ◌≤◌, cond, ◌↔◌, List, [], ◌∷◌, length, ℤ, pos, negsuc, neg_ℤ, ◌==◌, nat_lt, slice_index, unsigned_abs}
+use Rattle.std.specs.Fmt.{decimal, signed_decimal}
 
 abbrev pub Bytes : Type 0
 Bytes = List ℕ
@@ -38,3 +39,8 @@ signed_value (x ∷ xs) = cond (x == 45) (neg_ℤ (pos (value xs))) (pos (value 
 
 abbrev pub NumeralsAreBaseTen : Type 0
 NumeralsAreBaseTen = (bs : Bytes) (n : ℕ) → (bs ≡ numeral n) ↔ (BaseTen bs × (value bs ≡ n))
+
+-- what std prints of a number below 2 ^ 64, and of one with a sign, is its numeral
+pub record NumeralsArePrinted : Type 0 where
+  pub plain : (n : ℕ) → n < 2 ^ 64 → decimal n ≡ numeral n
+  pub with_sign : (z : ℤ) → unsigned_abs z < 2 ^ 64 → signed_decimal z ≡ signed z

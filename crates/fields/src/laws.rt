@@ -1,9 +1,14 @@
 // What holds of numerals and lines; each contract is a theorem.
-ghost use Rattle.fields.specs.Numerals.{NumeralsAreBaseTen};
+ghost use Rattle.fields.specs.Numerals.{NumeralsAreBaseTen, NumeralsArePrinted};
 ghost use Rattle.fields.specs.Checking.{LineFaultsAreExact};
 
 // A numeral is the digits of its number in base ten; the fault that is found in a line is its first.
 pub fn line_faults_are_exact()
     ensures numerals { NumeralsAreBaseTen }
     ensures faults { LineFaultsAreExact }
+{}
+
+// What std prints of a number, plain or with a sign, is its numeral.
+pub fn numerals_are_printed()
+    ensures { NumeralsArePrinted }
 {}

@@ -1,18 +1,15 @@
 // Writing numbers in base ten.
-ghost use Rattle.std.specs.Prelude.{◌≡◌, ◌<◌, drop};
+ghost use Rattle.std.specs.Prelude.{◌≡◌};
 ghost use Rattle.fields.specs.Numerals.{numeral};
 
-// Writes a number to the end of `room`, and answers where it begins there.
-pub fn digits_of(number: u64, room: &mut [u8; 20]) -> usize
-    ensures { (result < 20) × (drop result room.new ≡ numeral number) }
+use arrayvec::ArrayString;
+use itoa::Buffer;
+
+// The digits of a number, of which there are 20 at most.
+pub fn digits_of(number: u64) -> ArrayString<20>
+    ensures { result.bytes ≡ numeral number }
 {
-    let mut left = number;
-    for at in (0..20).rev() {
-        room[at] = b'0' + (left % 10) as u8;
-        left /= 10;
-        if left == 0 {
-            return at;
-        }
-    }
-    unreachable()
+    let mut digits = ArrayString::new();
+    digits.push_str(Buffer::new().format(number));
+    digits
 }

@@ -14,7 +14,7 @@ fn run(rt: &HostRuntime) -> anyhow::Result<()> {
     let mut tables = Tables::new(heap)?;
     let answer = quote(input.as_slice(), &mut tables);
     let printed = text(heap, answer, &tables)?;
-    rt.stdout().write_all(printed.as_slice())?;
+    rt.stdout().write_all(printed.as_bytes())?;
     Ok(())
 }
 

@@ -13,7 +13,7 @@ fn agrees(rt: &HostRuntime, tables: &mut Tables, name: &str) -> anyhow::Result<b
     let expected = fs::read(rt, format!(in heap; "{name}.out")?.as_str())?;
     let answer = quote(input.as_slice(), tables);
     let printed = text(heap, answer, tables)?;
-    Ok(printed.as_slice() == expected.as_slice())
+    Ok(printed.as_bytes() == expected.as_slice())
 }
 
 fn run(rt: &HostRuntime) -> anyhow::Result<()> {

@@ -1,21 +1,43 @@
-use Rattle.std.proofs.Common.{◌≡◌, ℕ, ◌+◌, ◌/◌, ◌%◌, List, [], ◌∷◌, ◌++◌, get_or, ℤ, pos, vec_items, sym, ap, ◌∙◌, add-one, arith, w64, SFits, rules}
+use Rattle.std.proofs.Common.{◌≡◌, ℕ, ◌+◌, ◌/◌, ◌%◌, ◌^◌, ◌<◌, List, [], ◌∷◌, ◌++◌, length, get_or, ℤ, string_bytes, Bor, w64, SFits, to_z, of_z, sym, subst, ap, ◌∙◌, add-one, arith, rules}
+use Rattle.std.proofs.lemmas.Iterator.Consumers.{YieldsList-at, YieldsList-turn, YieldsList-end}
 use Rattle.std.proofs.lemmas.Int.{to_z-of_z}
-use Rattle.fields.specs.Numerals.{Bytes, numeral}
+use Rattle.std.proofs.lemmas.List.{length_push}
+use Rattle.std.specs.Slice.Iter.{iter_rest}
+use Rattle.fields.specs.Numerals.{numeral}
 use Rattle.quoting.specs.Printing.{plan_line, plan_lines}
-use Rattle.quoting.proofs.Pushes.{line_of_one}
+use Rattle.quoting.proofs.Lines.{entry_printed, count_printed, yields_entries, entry_at, length-entries}
 use Rattle.quoting.proofs.text.plan_text.Goals as goal
+
+pub loop-i-init : goal.loop-i-init
+loop-i-init c = c.new-out.ensures.bytes
 
 pub loop-i-preserved : goal.loop-i-preserved
 loop-i-preserved c =
     let k = c.args.quote.conditions in
-    let i = c.loop-i.i in
     let vs : List ℤ = c.args.values.now in
     let rs : List ℕ = c.args.remedies.now in
-    let fits : SFits w64 (get_or vs i (pos 0)) = search rules in
-    c.in_ok-push_entry.ensures
-    ∙ ap (λ (z : ℤ). vec_items c.loop-i.out ++ plan_line (i / k + 1) (i % k) (get_or rs i 0) z) (to_z-of_z w64 (get_or vs i (pos 0)) fits)
-    ∙ ap (λ (t : Bytes). t ++ plan_line (i / k + 1) (i % k) (get_or rs i 0) (get_or vs i (pos 0))) c.loop-i.invariant
-    ∙ ap (plan_lines k vs rs) (sym (add-one i))
+    let n = c.args.quote.entries in
+    let m = length c.loop-i.yielded in
+    let i = c.in-Some.i in
+    let v = c.in-Some.field-0-1-0.now in
+    let r = c.in-Some.field-0-1-1.now in
+    let item : ℕ × (Bor ℤ × Bor ℕ) = (i, (c.in-Some.field-0-1-0, c.in-Some.field-0-1-1)) in
+    let first = ap iter_rest c.zip.ensures.first ∙ c.iter.ensures.rest in
+    let items = yields_entries vs rs n c.zip.result c.take.result c.enumerate-i-items.result first c.zip.ensures.second.0 c.take.ensures.source c.take.ensures.count c.enumerate-i-items.ensures.source c.enumerate-i-items.ensures.count in
+    let road = YieldsList-at c.into_iter-i-iterator.ensures.into_iter_gives items in
+    let turn = YieldsList-turn road c.loop-i.yielded c.loop-i.i-iterator c.loop-i.yielded_by c.next.result c.next.new.self item c.in-Some.is c.next.ensures.steps in
+    let place = entry_at vs rs n m (i, (v, r)) turn in
+    let copied : SFits w64 c.in-Some.value = search rules in
+    let value : SFits w64 v = subst (SFits w64) (sym c.in-Some.value-is) copied in
+    let passed = to_z w64 (of_z w64 v) in
+    let back : passed ≡ v = to_z-of_z w64 v value in
+    let byte : get_or rs m 0 < 2 ^ 8 = (c.type_inv.remedies m).fits in
+    let remedy : r < 2 ^ 64 = omega (arith, byte, ap (λ (x : ℕ × (ℤ × ℕ)). x.1.1) place) in
+    c.in_ok-writeln.ensures.bytes
+    ∙ ap (λ bs. string_bytes c.loop-i.out ++ bs) (entry_printed (i / k + 1) (i % k) r passed (search rules) (search rules) remedy (subst (SFits w64) (sym back) value) ∙ ap (plan_line (i / k + 1) (i % k) r) back)
+    ∙ ap (λ bs. bs ++ plan_line (i / k + 1) (i % k) r v) c.loop-i.invariant
+    ∙ ap (λ (x : ℕ × (ℤ × ℕ)). plan_lines k vs rs m ++ plan_line (x.0 / k + 1) (x.0 % k) x.1.1 x.1.0) place
+    ∙ ap (plan_lines k vs rs) (sym (length_push c.loop-i.yielded item ∙ add-one m))
 
 pub returns : goal.returns
 returns c =
@@ -23,8 +45,11 @@ returns c =
     let n = c.args.quote.entries in
     let vs : List ℤ = c.args.values.now in
     let rs : List ℕ = c.args.remedies.now in
-    let end : c.loop-i.i ≡ n = omega arith in
-    let lines : vec_items c.loop-i.out ≡ plan_lines k vs rs n = c.loop-i.invariant ∙ ap (plan_lines k vs rs) end in
-    let letter : vec_items c.push.new.self ≡ plan_lines k vs rs n ++ (84 ∷ []) = c.in_ok-push.ensures.items ∙ ap (λ (t : Bytes). t ++ (84 ∷ [])) lines in
-    let count : vec_items c.push_field.new.out ≡ (plan_lines k vs rs n ++ (84 ∷ [])) ++ (9 ∷ numeral n) = c.in_ok-push_field.ensures ∙ ap (λ (t : Bytes). t ++ (9 ∷ numeral n)) letter in
-    c.in_ok-push-2.ensures.items ∙ ap (λ (t : Bytes). t ++ (10 ∷ [])) count ∙ line_of_one 84 (plan_lines k vs rs n) (numeral n)
+    let first = ap iter_rest c.zip.ensures.first ∙ c.iter.ensures.rest in
+    let items = yields_entries vs rs n c.zip.result c.take.result c.enumerate-i-items.result first c.zip.ensures.second.0 c.take.ensures.source c.take.ensures.count c.enumerate-i-items.ensures.source c.enumerate-i-items.ensures.count in
+    let road = YieldsList-at c.into_iter-i-iterator.ensures.into_iter_gives items in
+    let end = YieldsList-end road c.loop-i.yielded c.loop-i.i-iterator c.loop-i.yielded_by c.next.result c.next.new.self c.in-None.is c.next.ensures.steps in
+    let all : length c.loop-i.yielded ≡ n = end.1 ∙ length-entries vs rs n (search rules) (search rules) in
+    c.in_ok-writeln-2.ensures.bytes
+    ∙ ap (λ bs. string_bytes c.loop-i.out ++ bs) (count_printed n (search rules))
+    ∙ ap (λ bs. bs ++ (84 ∷ 9 ∷ (numeral n ++ (10 ∷ [])))) (c.loop-i.invariant ∙ ap (plan_lines k vs rs) all)
