@@ -1,21 +1,18 @@
 -- A sheet without notes means what its book means.
-use Rattle.std.proofs.Common.{◌≡◌, ℕ, zero, suc, ◌<◌, Bool, true, false, cond, ◌&&◌, T, eqb, List, [], ◌∷◌, length, ℤ, pos, negsuc, ◌+ℤ◌, sym, refl, ap, ◌∙◌, subst, arith}
+use Rattle.std.proofs.Common.{◌≡◌, ℕ, zero, suc, ◌<◌, Bool, true, false, cond, T, eqb, List, [], ◌∷◌, length, ℤ, pos, negsuc, ◌+ℤ◌, sym, refl, ap, ◌∙◌, subst, arith}
 use mathlib.Core.Path.{fun_ext}
 use lib.IntN.{+ℤ_idr}
 use Rattle.std.proofs.lemmas.Int.{ints, clamps}
-use Rattle.std.proofs.lemmas.Bool.{eqb-true, le-leb, lt-ltb, and_from}
+use Rattle.std.proofs.Math.Bool.{and-true}
+use Rattle.std.proofs.lemmas.Bool.{eqb-true}
+use Rattle.std.proofs.lemmas.Bool.Decides.{nat_tests}
 use Rattle.model.specs.Model.{Model, Offers, offers, Money, Inside, Lawful}
 use Rattle.sheets.specs.declared.note.Note.{Note}
 use Rattle.sheets.specs.Notes.{held, inside, noted}
 use Rattle.sheets.specs.Laws.{BlankSheetIsTheBook}
 
 is_inside : (o : Offers) (n s r j : ℕ) → Inside o n s r → j < o.conditions → inside o n s r j ≡ true
-is_inside o n s r j i l =
-    and_from _ _ (and_from _ _ (and_from _ _ (and_from _ _ (le-leb 1 n i.first_visit) (le-leb n 48 i.last_visit)) (lt-ltb s _ i.some_condition)) (lt-ltb r _ i.some_remedy)) (lt-ltb j _ l)
-
-and_true : (b : Bool) → (b && true) ≡ b
-and_true true = refl
-and_true false = refl
+is_inside o n s r j i l = grind (arith, nat_tests)
 
 nonzero : (z : ℤ) → (¬ (z ≡ pos 0) → ⊥) → z ≡ pos 0
 nonzero (pos zero) h = refl
@@ -30,7 +27,7 @@ blank_sheet_is_the_book m lawful = λ i. record {
   conditions = m.conditions;
   remedies = m.remedies;
   parts = m.parts;
-  offered = fun_ext (λ n. fun_ext (λ s. fun_ext (λ r. and_true (m.offered n s r)))) i;
+  offered = fun_ext (λ n. fun_ext (λ s. fun_ext (λ r. and-true (m.offered n s r)))) i;
   share = m.share;
   amount = fun_ext (λ n. fun_ext (λ s. fun_ext (λ r. fun_ext (λ j. same n s r j (inside (offers m) n s r j) refl)))) i;
   worth = m.worth;

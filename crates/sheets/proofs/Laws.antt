@@ -1,21 +1,16 @@
 -- What entering and lifting a note change.
 use Rattle.std.proofs.Common.{◌≡◌, ℕ, suc, ◌+◌, ◌-◌, ◌≤◌, Bool, true, false, cond, not, ◌||◌, T, leb, List, [], ◌∷◌, ◌++◌, length, take, drop, ℤ, ◌+ℤ◌, sym, refl, ap, ◌∙◌, arith, leb→le}
-use mathlib.Core.Bool.{or_assoc, or_comm}
+use mathlib.Core.Bool.{or_comm}
 use lib.IntN.{+ℤ_assoc, +ℤ_idl, +ℤ_idr}
 use Rattle.std.proofs.lemmas.List.{append-nil, length_push, take-append-drop, take_at, drop_all, drop_more}
+use Rattle.std.proofs.lemmas.List.Folds.{list_any-append}
 use Rattle.std.proofs.lemmas.Int.{ints}
 use Rattle.std.proofs.lemmas.Bool.{le-leb, and_from}
 use Rattle.sheets.specs.declared.note.Note.{Note}
-use Rattle.sheets.specs.declared.note.Note.TheVariants.{Bar}
 use Rattle.sheets.specs.Notes.{bars, barred, charge, surcharged}
-use Rattle.sheets.specs.Calls.{Answered, stands_at, note_at, to_lift}
+use Rattle.sheets.specs.Calls.{Answered, stands_at, no_note, note_at, to_lift}
 use Rattle.sheets.specs.Keeping.{both}
 use Rattle.sheets.specs.Laws.{EnteringAddsOne, LiftingTakesOne, LiftingUndoesEntering}
-
-barred_append : (xs ys : List Note) (n s r : ℕ) → barred (xs ++ ys) n s r ≡ (barred xs n s r || barred ys n s r)
-barred_append [] ys n s r = refl
-barred_append (x ∷ xs) ys n s r =
-    ap (λ b. bars x n s r || b) (barred_append xs ys n s r) ∙ sym (or_assoc (bars x n s r) (barred xs n s r) (barred ys n s r))
 
 surcharged_append : (xs ys : List Note) (n r : ℕ) → surcharged (xs ++ ys) n r ≡ surcharged xs n r +ℤ surcharged ys n r
 surcharged_append [] ys n r = sym (+ℤ_idl (surcharged ys n r))
@@ -24,12 +19,12 @@ surcharged_append (x ∷ xs) ys n r =
 
 pub entering_adds_one : EnteringAddsOne
 entering_adds_one ns x n s r =
-    (barred_append ns (x ∷ []) n s r ∙ ap (λ b. barred ns n s r || b) (or_comm (bars x n s r) false), surcharged_append ns (x ∷ []) n r ∙ ap (λ z. surcharged ns n r +ℤ z) (+ℤ_idr (charge x n r)))
+    (list_any-append (λ y. bars y n s r) ns (x ∷ []) ∙ ap (λ b. barred ns n s r || b) (or_comm (bars x n s r) false), surcharged_append ns (x ∷ []) n r ∙ ap (λ z. surcharged ns n r +ℤ z) (+ℤ_idr (charge x n r)))
 
 -- a list at a place that stands: what is before it, the note, what is after it
 parted : (ns : List Note) (p : ℕ) → 1 ≤ p → p ≤ length ns → ns ≡ take (p - 1) ns ++ (note_at ns p ∷ drop p ns)
 parted ns p from to =
-    let rest = drop_more ns (p - 1) (Bar 0 0 0 0) (omega arith) in
+    let rest = drop_more ns (p - 1) no_note (omega arith) in
     let next : p - 1 + 1 ≡ p = omega arith in
     sym (take-append-drop (p - 1) ns) ∙ ap (λ l. take (p - 1) ns ++ l) (rest ∙ ap (λ k. note_at ns p ∷ drop k ns) next)
 
@@ -56,7 +51,7 @@ lifting_takes_one ns p n s r h =
     let left = take (p - 1) ns in
     let right = drop p ns in
     let x = note_at ns p in
-    (ap (λ l. barred l n s r) split ∙ barred_append left (x ∷ right) n s r ∙ or_swap (barred left n s r) (bars x n s r) (barred right n s r) ∙ ap (λ b. bars x n s r || b) (sym (barred_append left right n s r) ∙ ap (λ l. barred l n s r) (sym (lifted ns p h))), ap (λ l. surcharged l n r) split ∙ surcharged_append left (x ∷ right) n r ∙ add_swap (surcharged left n r) (charge x n r) (surcharged right n r) ∙ ap (λ z. charge x n r +ℤ z) (sym (surcharged_append left right n r) ∙ ap (λ l. surcharged l n r) (sym (lifted ns p h))))
+    (ap (λ l. barred l n s r) split ∙ list_any-append (λ y. bars y n s r) left (x ∷ right) ∙ or_swap (barred left n s r) (bars x n s r) (barred right n s r) ∙ ap (λ b. bars x n s r || b) (sym (list_any-append (λ y. bars y n s r) left right) ∙ ap (λ l. barred l n s r) (sym (lifted ns p h))), ap (λ l. surcharged l n r) split ∙ surcharged_append left (x ∷ right) n r ∙ add_swap (surcharged left n r) (charge x n r) (surcharged right n r) ∙ ap (λ z. charge x n r +ℤ z) (sym (surcharged_append left right n r) ∙ ap (λ l. surcharged l n r) (sym (lifted ns p h))))
 
 pub lifting_undoes_entering : LiftingUndoesEntering
 lifting_undoes_entering ns x =

@@ -1,10 +1,15 @@
 -- A sheet over a lawful book is lawful.
-use Rattle.std.specs.Prelude.{◌≡◌, ℕ, ◌<◌, Bool, true, false, cond, not, ◌&&◌, T, List, ℤ, pos, ◌+ℤ◌, nat_le, nat_lt, refl}
-use Rattle.std.proofs.Common.{arith, leb→le, ltb→lt}
+use Rattle.std.specs.Prelude.{◌≡◌, ℕ, ◌<◌, Bool, true, false, cond, not, ◌&&◌, T, List, ℤ, pos, ◌+ℤ◌, refl}
+use Rattle.std.proofs.Common.{arith}
 use Rattle.std.proofs.lemmas.Int.{ints, clamps}
+use Rattle.std.proofs.lemmas.Bool.Decides.{nat_tests}
 use Rattle.model.specs.Model.{Model, Offers, offers, Money, Inside, Lawful}
 use Rattle.sheets.specs.declared.note.Note.{Note}
 use Rattle.sheets.specs.Notes.{barred, surcharged, held, inside, noted}
+
+is_true : (b : Bool) → T b → b ≡ true
+is_true true h = refl
+is_true false h = absurd h
 
 pub both : (a b : Bool) → T (a && b) → T a × T b
 both true true h = (tt, tt)
@@ -14,11 +19,8 @@ both false false h = absurd h
 
 pub inside_is : (o : Offers) (n s r j : ℕ) → T (inside o n s r j) → Inside o n s r × (j < o.conditions)
 inside_is o n s r j h =
-    let next = both _ (nat_lt j o.conditions) h in
-    let remedy = both _ (nat_lt r o.remedies) next.0 in
-    let condition = both _ (nat_lt s o.conditions) remedy.0 in
-    let visit = both (nat_le 1 n) (nat_le n 48) condition.0 in
-    (record { first_visit = leb→le 1 n visit.0; last_visit = leb→le n 48 visit.1; some_condition = ltb→lt s _ condition.1; some_remedy = ltb→lt r _ remedy.1 }, ltb→lt j _ next.1)
+    let all = is_true (inside o n s r j) h in
+    (record { first_visit = grind (arith, nat_tests); last_visit = grind (arith, nat_tests); some_condition = grind (arith, nat_tests); some_remedy = grind (arith, nat_tests) }, grind (arith, nat_tests))
 
 held_money : (b : Bool) (z : ℤ) → Money (cond b (held z) (pos 0))
 held_money true z = record { low = omega (arith, ints, clamps); high = omega (arith, ints, clamps) }

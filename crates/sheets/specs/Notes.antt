@@ -1,27 +1,32 @@
 -- Notes laid over a book, in order of entry, and what the book means under them.
-use Rattle.std.specs.Prelude.{ℕ, Bool, false, cond, not, ◌&&◌, ◌||◌, List, [], ◌∷◌, ℤ, pos, negsuc, ◌+ℤ◌, ◌==◌, nat_le, nat_lt}
+use Rattle.std.specs.Prelude.{ℕ, Bool, false, cond, not, ◌&&◌, List, [], ◌∷◌, ℤ, pos, negsuc, ◌+ℤ◌, ◌==◌, nat_le, nat_lt}
 use Rattle.std.specs.Int.{int_max, int_min}
+use Rattle.std.specs.List.{list_any}
 use Rattle.model.specs.Model.{Model, Offers, offers}
+use Rattle.sheets.specs.declared.note.Visits.{Visits}
 use Rattle.sheets.specs.declared.note.Note.{Note}
 use Rattle.sheets.specs.declared.note.Note.TheVariants.{Bar, Surcharge}
 
 -- a visit from first to last
-abbrev pub covers : (first last visit : ℕ) → Bool
-covers first last visit = nat_le first visit && nat_le visit last
+abbrev pub covers : Visits → (visit : ℕ) → Bool
+covers v visit = nat_le v.first visit && nat_le visit v.last
+
+abbrev pub visits_of : Note → Visits
+visits_of (Bar s r v) = v
+visits_of (Surcharge r a v) = v
 
 -- whether a note bars the remedy r in the condition s at the visit n
 abbrev pub bars : Note → (n s r : ℕ) → Bool
-bars (Bar s' r' f l) n s r = covers f l n && s' == s && r' == r
-bars (Surcharge r' a f l) n s r = false
+bars (Bar s' r' v) n s r = covers v n && s' == s && r' == r
+bars (Surcharge r' a v) n s r = false
 
 abbrev pub barred : List Note → (n s r : ℕ) → Bool
-barred [] n s r = false
-barred (x ∷ ns) n s r = bars x n s r || barred ns n s r
+barred ns n s r = list_any (λ x. bars x n s r) ns
 
 -- what a note adds to the amounts of the remedy r at the visit n
 abbrev pub charge : Note → (n r : ℕ) → ℤ
-charge (Bar s' r' f l) n r = pos 0
-charge (Surcharge r' a f l) n r = cond (covers f l n && r' == r) a (pos 0)
+charge (Bar s' r' v) n r = pos 0
+charge (Surcharge r' a v) n r = cond (covers v n && r' == r) a (pos 0)
 
 abbrev pub surcharged : List Note → (n r : ℕ) → ℤ
 surcharged [] n r = pos 0

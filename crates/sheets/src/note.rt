@@ -1,31 +1,44 @@
 ghost use Rattle.std.specs.Prelude.{◌≡◌};
-ghost use Rattle.sheets.specs.Notes.{bars, charge};
-ghost use Rattle.sheets.specs.Calls.{misspanned, first_of, until};
+ghost use Rattle.sheets.specs.Notes.{covers, visits_of, bars, charge};
+ghost use Rattle.sheets.specs.Calls.{misspanned, over};
 
-// One line of a sheet, for the visits from first to last.
+// The visits from first to last.
+#[derive(Clone, Copy, Debug, PartialEq)]
+pub struct Visits {
+    pub first: usize,
+    pub last: usize,
+}
+
+// One line of a sheet, for some visits.
 #[derive(Clone, Copy, Debug, PartialEq)]
 pub enum Note {
     // The remedy may not be given in the condition.
     Bar {
         condition: usize,
         remedy: usize,
-        first: usize,
-        last: usize,
+        visits: Visits,
     },
     // The remedy gains the amount as well; a million either way at most.
     Surcharge {
         remedy: usize,
         amount: i32,
-        first: usize,
-        last: usize,
+        visits: Visits,
     },
 }
 
-// Whether no note may stand for these visits.
-pub(crate) fn out_of_span(first: usize, last: usize) -> bool
-    ensures { result ≡ misspanned first last }
-{
-    first == 0 || last < first || last > 48
+impl Visits {
+    fn cover(&self, visit: usize) -> bool
+        ensures { result ≡ covers self.now visit }
+    {
+        self.first <= visit && visit <= self.last
+    }
+
+    // Whether no note may stand for these visits.
+    pub(crate) fn out_of_span(&self) -> bool
+        ensures { result ≡ misspanned self.now }
+    {
+        self.first == 0 || self.last < self.first || self.last > 48
+    }
 }
 
 impl Note {
@@ -36,9 +49,8 @@ impl Note {
             Note::Bar {
                 condition: at,
                 remedy: named,
-                first,
-                last,
-            } => { first <= visit && visit <= last && at == condition && named == remedy }
+                visits,
+            } => visits.cover(visit) && at == condition && named == remedy,
             Note::Surcharge { .. } => false,
         }
     }
@@ -48,57 +60,41 @@ impl Note {
         ensures { result ≡ charge self.now visit remedy }
     {
         match *self {
-            Note::Bar { .. } => 0,
             Note::Surcharge {
                 remedy: named,
                 amount,
-                first,
-                last,
-            } => {
-                if first <= visit && visit <= last && named == remedy {
-                    amount
-                } else {
-                    0
-                }
-            }
+                visits,
+            } if visits.cover(visit) && named == remedy => amount,
+            _ => 0,
         }
     }
 
-    pub(crate) fn first_visit(&self) -> usize
-        ensures { result ≡ first_of self.now }
+    pub(crate) fn visits(&self) -> Visits
+        ensures { result ≡ visits_of self.now }
     {
         match *self {
-            Note::Bar { first, .. } => first,
-            Note::Surcharge { first, .. } => first,
+            Note::Bar { visits, .. } | Note::Surcharge { visits, .. } => visits,
         }
     }
 
-    // The same note with another last visit.
-    pub(crate) fn ending(&self, last: usize) -> Note
-        ensures { result ≡ until self.now last }
+    // The same note for other visits.
+    pub(crate) fn over(&self, visits: Visits) -> Note
+        ensures { result ≡ over self.now visits }
     {
         match *self {
             Note::Bar {
                 condition,
                 remedy,
-                first,
                 ..
             } => Note::Bar {
                 condition,
                 remedy,
-                first,
-                last,
+                visits,
             },
-            Note::Surcharge {
+            Note::Surcharge { remedy, amount, .. } => Note::Surcharge {
                 remedy,
                 amount,
-                first,
-                ..
-            } => Note::Surcharge {
-                remedy,
-                amount,
-                first,
-                last,
+                visits,
             },
         }
     }

@@ -5,7 +5,7 @@ ghost use Rattle.sheets.specs.Calls.{standing_at, to_bar, to_surcharge, to_prolo
 ghost use Rattle.sheets.specs.Laws.{BlankSheetIsTheBook, EnteringAddsOne, LiftingTakesOne, LiftingUndoesEntering};
 ghost use Rattle.sheets.specs.Keeping.{noted_lawful};
 
-use super::note::{Note, out_of_span};
+use super::note::{Note, Visits};
 use super::notes::Notes;
 use super::refusal::NoteRefusal;
 use model::Book;
@@ -18,7 +18,7 @@ pub struct Sheet<B> {
     notes: Notes,
 }
 
-// There was no memory for a sheet; the book comes back.
+// There was no memory for a sheet; the book comes back. (std's AllocFailed is std's to make: here it would be an error by hand.)
 #[derive(Drop)]
 pub struct NoMemory<B> {
     pub book: B,
@@ -34,7 +34,7 @@ fn hold(sum: i64) -> i64
 impl<B: Book> Sheet<B> {
     // A sheet with no notes. Whether there is memory for it is left open.
     pub fn new(heap: Global, book: B) -> Result<Sheet<B>, NoMemory<B>>
-        ensures { MatchResult result (λ s. (s.book ≡ book) × (s.notes.list.items ≡ [])) (λ e. e.book ≡ book) }
+        ensures { MatchResult result (λ s. (s.book ≡ book) × (s.notes ≡ [])) (λ e. e.book ≡ book) }
     {
         match Notes::new(heap) {
             Ok(notes) => Ok(Sheet { book, notes }),
@@ -46,13 +46,12 @@ impl<B: Book> Sheet<B> {
     pub fn into_book(self) -> B
         ensures { result ≡ self.book }
     {
-        let Sheet { book, notes: _ } = self;
-        book
+        self.book
     }
 
     // How many notes stand; the next is entered at the place after them.
     pub fn standing(&self) -> usize
-        ensures answer { result ≡ length self.now.notes.list.items }
+        ensures answer { result ≡ length self.now.notes }
         ensures few { result ≤ 24 }
         ensures law { EnteringAddsOne }
     {
@@ -61,7 +60,7 @@ impl<B: Book> Sheet<B> {
 
     // The note at a place, from 1: the one that is prolonged or lifted there.
     pub fn note(&self, place: usize) -> Option<Note>
-        ensures answer { result ≡ standing_at self.now.notes.list.items place }
+        ensures answer { result ≡ standing_at self.now.notes place }
         ensures law { LiftingTakesOne × LiftingUndoesEntering }
     {
         self.notes.get(place)
@@ -69,8 +68,8 @@ impl<B: Book> Sheet<B> {
 
     // Whether no note stands; the sheet then means what its book means.
     pub fn is_blank(&self) -> bool
-        ensures answer { result ≡ (length self.now.notes.list.items == 0) }
-        ensures model { result ≡ true → noted (B.Book.model self.now.book) self.now.notes.list.items ≡ B.Book.model self.now.book }
+        ensures answer { result ≡ (length self.now.notes == 0) }
+        ensures model { result ≡ true → noted (B.Book.model self.now.book) self.now.notes ≡ B.Book.model self.now.book }
         ensures law { BlankSheetIsTheBook }
     {
         self.notes.is_empty()
@@ -81,8 +80,7 @@ impl<B: Book> Sheet<B> {
         ensures { result ≡ inside (offers (B.Book.model self.now.book)) visit condition remedy next }
     {
         let conditions = self.conditions();
-        1 <= visit
-            && visit <= 48
+        (1..=48).contains(&visit)
             && condition < conditions
             && remedy < self.remedies()
             && next < conditions
@@ -96,20 +94,20 @@ impl<B: Book> Sheet<B> {
         first: usize,
         last: usize,
     ) -> Result<usize, NoteRefusal>
-        ensures answer { (result, self.new.notes.list.items) ≡ to_bar (offers (B.Book.model self.old.book)) self.old.notes.list.items condition remedy first last }
+        ensures answer { (result, self.new.notes) ≡ to_bar (offers (B.Book.model self.old.book)) self.old.notes condition remedy (record { first = first; last = last }) }
         ensures book { self.new.book ≡ self.old.book }
     {
         if condition >= self.conditions() || remedy >= self.remedies() {
             return Err(NoteRefusal::Unknown);
         }
-        if out_of_span(first, last) {
+        let visits = Visits { first, last };
+        if visits.out_of_span() {
             return Err(NoteRefusal::Span);
         }
         self.notes.enter(Note::Bar {
             condition,
             remedy,
-            first,
-            last,
+            visits,
         })
     }
 
@@ -121,29 +119,29 @@ impl<B: Book> Sheet<B> {
         first: usize,
         last: usize,
     ) -> Result<usize, NoteRefusal>
-        ensures answer { (result, self.new.notes.list.items) ≡ to_surcharge (offers (B.Book.model self.old.book)) self.old.notes.list.items remedy amount first last }
+        ensures answer { (result, self.new.notes) ≡ to_surcharge (offers (B.Book.model self.old.book)) self.old.notes remedy amount (record { first = first; last = last }) }
         ensures book { self.new.book ≡ self.old.book }
     {
         if remedy >= self.remedies() {
             return Err(NoteRefusal::Unknown);
         }
-        if out_of_span(first, last) {
+        let visits = Visits { first, last };
+        if visits.out_of_span() {
             return Err(NoteRefusal::Span);
         }
-        if amount > 1_000_000 || amount < -1_000_000 {
+        if !(-1_000_000..=1_000_000).contains(&amount) {
             return Err(NoteRefusal::Dear);
         }
         self.notes.enter(Note::Surcharge {
             remedy,
             amount: amount as i32,
-            first,
-            last,
+            visits,
         })
     }
 
     // Gives the note at a place another last visit, earlier or later; answers the place.
     pub fn prolong(&mut self, place: usize, last: usize) -> Result<usize, NoteRefusal>
-        ensures answer { (result, self.new.notes.list.items) ≡ to_prolong self.old.notes.list.items place last }
+        ensures answer { (result, self.new.notes) ≡ to_prolong self.old.notes place last }
         ensures book { self.new.book ≡ self.old.book }
     {
         self.notes.prolong(place, last)
@@ -151,7 +149,7 @@ impl<B: Book> Sheet<B> {
 
     // Takes out the note at a place; answers how many are left.
     pub fn lift(&mut self, place: usize) -> Result<usize, NoteRefusal>
-        ensures answer { (result, self.new.notes.list.items) ≡ to_lift self.old.notes.list.items place }
+        ensures answer { (result, self.new.notes) ≡ to_lift self.old.notes place }
         ensures book { self.new.book ≡ self.old.book }
     {
         self.notes.lift(place)
@@ -159,9 +157,9 @@ impl<B: Book> Sheet<B> {
 }
 
 impl<B: Book> Book for Sheet<B> {
-    ghost model = { λ s. noted (B.Book.model s.book) s.notes.list.items };
+    ghost model = { λ s. noted (B.Book.model s.book) s.notes };
 
-    ghost lawful = { λ s. noted_lawful (B.Book.model s.book) s.notes.list.items (B.Book.lawful s.book) };
+    ghost lawful = { λ s. noted_lawful (B.Book.model s.book) s.notes (B.Book.lawful s.book) };
 
     fn conditions(&self) -> usize {
         self.book.conditions()

@@ -2,7 +2,7 @@ ghost use Rattle.std.specs.Prelude.{◌≡◌};
 ghost use Rattle.sheets.specs.Flat.{within_two, flat_model, flat_lawful};
 ghost use Rattle.sheets.specs.Notes.{noted};
 
-use super::note::Note;
+use super::note::{Note, Visits};
 use super::refusal::NoteRefusal;
 use super::refusal::NoteRefusal::*;
 use super::sheet::Sheet;
@@ -59,15 +59,12 @@ impl Book for Flat {
 }
 
 fn laid<B: Book + Drop>(heap: Global, book: B) -> Result<Sheet<B>, Fail> {
-    match Sheet::new(heap, book) {
-        Ok(sheet) => Ok(sheet),
-        Err(_) => Err(Fail::new("no memory")),
-    }
+    Sheet::new(heap, book).map_err(|_| Fail::new("no memory"))
 }
 
 // A sheet over a sheet holds each amount once more.
 fn upper_amount<B: Book>(upper: &Sheet<Sheet<B>>, visit: usize) -> i64
-    ensures { result ≡ (noted (noted (B.Book.model upper.now.book.book) upper.now.book.notes.list.items) upper.now.notes.list.items).amount visit 0 1 0 }
+    ensures { result ≡ (noted (noted (B.Book.model upper.now.book.book) upper.now.book.notes) upper.now.notes).amount visit 0 1 0 }
 {
     upper.amount(visit, 0, 1, 0)
 }
@@ -126,8 +123,7 @@ fn full_sheet(rt: HostRuntime) -> Result<(), Fail> {
         Some(Note::Bar {
             condition: 0,
             remedy: 1,
-            first: 1,
-            last: 48,
+            visits: Visits { first: 1, last: 48 },
         })
     );
     assert_eq!(rt; sheet.surcharge(0, 0, 1, 1), Ok(24));
