@@ -1,12 +1,12 @@
 // The limits that both kinds of book share.
 ghost use Rattle.std.specs.Prelude.{◌≡◌, ◌≤◌, ◌⊎◌, length, pos, Decides, slice_index_or};
-ghost use Rattle.books.specs.Alike.{Sizes, inside};
+ghost use Rattle.books.specs.Alike.{SizesFit, inside};
 ghost use Rattle.books.specs.Entries.{SmallMoney};
 ghost use Rattle.books.specs.Making.{FirstFailing};
 
 // Whether the sizes are those of a book.
 pub(crate) fn sizes_fit(conditions: usize, remedies: usize, parts: u32) -> bool
-    ensures { Decides result (Sizes conditions remedies parts) }
+    ensures { Decides result (SizesFit conditions remedies parts) }
 {
     1 <= conditions
         && conditions <= 32
