@@ -8,7 +8,7 @@ use Rattle.model.proofs.Listing.{written_more}
 use Rattle.books.specs.declared.list.ListBook.{ListBook}
 use Rattle.books.specs.declared.record.Record.{Record}
 use Rattle.books.specs.Alike.{inside}
-use Rattle.books.specs.Entries.{no_record, place, key}
+use Rattle.books.specs.Entries.{no_record, rank, key}
 use Rattle.books.specs.Listed.{listed}
 use Rattle.books.specs.Means.{list_means}
 use Rattle.books.proofs.Lookups.{listed_none, listed_hit, about_not}
@@ -25,12 +25,12 @@ skip_to m n s x (suc t) j l none =
     (cases_lt j (suc t))
 
 -- no record between two places
-gap : (es : List Record) (m lo hi s x j : ℕ) → ((i : ℕ) → i < m → key (get_or es i no_record) < lo) → ((i : ℕ) → m ≤ i → i < length es → hi ≤ key (get_or es i no_record)) → lo ≤ place s x j → place s x j < hi → listed es s x j ≡ no_record
+gap : (es : List Record) (m lo hi s x j : ℕ) → ((i : ℕ) → i < m → key (get_or es i no_record) < lo) → ((i : ℕ) → m ≤ i → i < length es → hi ≤ key (get_or es i no_record)) → lo ≤ rank s x j → rank s x j < hi → listed es s x j ≡ no_record
 gap es m lo hi s x j below above a b = listed_none es s x j (λ i l. about_not (get_or es i no_record) s x j (λ p.
     ⊎_elim (λ d. let u = below i d in omega arith) (λ d. let u = above i d l in omega arith) (cases_lt i m)))
 
 -- a record at or after a place of a row, and not of the row, is after the row
-past_row : (e : Record) (s x j : ℕ) → x < 8 → e.remedy < 8 → e.next < 32 → place s x j ≤ key e → ((e.condition ≡ s) × (e.remedy ≡ x) → ⊥) → place s x 32 ≤ key e
+past_row : (e : Record) (s x j : ℕ) → x < 8 → e.remedy < 8 → e.next < 32 → rank s x j ≤ key e → ((e.condition ≡ s) × (e.remedy ≡ x) → ⊥) → rank s x 32 ≤ key e
 past_row e s x j xl rl nl l away =
     ⊎_elim
     (λ (p : e.condition ≡ s). ⊎_elim
@@ -47,7 +47,7 @@ module _ (book : ListBook) (n s x : ℕ) where
       skip_to (list_means book) n s x book.conditions 0 (omega arith) (λ j a l. ap (λ (b : Bool). cond (b && ltb j book.conditions) (listed book.records.now s x j).share 0) none)
 
   -- the first `at` records stand before next condition j of the row, the others do not
-  module _ (some : inside book.conditions book.remedies n s x ≡ true) (at j : ℕ) (below : (i : ℕ) → i < at → key (get_or book.records.now i no_record) < place s x j) (above : (i : ℕ) → at ≤ i → i < length book.records.now → place s x j ≤ key (get_or book.records.now i no_record)) where
+  module _ (some : inside book.conditions book.remedies n s x ≡ true) (at j : ℕ) (below : (i : ℕ) → i < at → key (get_or book.records.now i no_record) < rank s x j) (above : (i : ℕ) → at ≤ i → i < length book.records.now → rank s x j ≤ key (get_or book.records.now i no_record)) where
     here : (k : ℕ) → k < book.conditions → (inside book.conditions book.remedies n s x && ltb k book.conditions) ≡ true
     here k l = and_from (inside book.conditions book.remedies n s x) (ltb k book.conditions) some (lt-ltb k book.conditions l)
 
@@ -66,9 +66,9 @@ module _ (book : ListBook) (n s x : ℕ) where
         (cases_lt at i)
 
     -- no share from j to a next condition that the record there does not stand before
-    skipped : (t : ℕ) → j ≤ t → t ≤ book.conditions → (at < length book.records.now → place s x t ≤ key (get_or book.records.now at no_record)) → outcomes (list_means book) n s x j ≡ outcomes (list_means book) n s x t
+    skipped : (t : ℕ) → j ≤ t → t ≤ book.conditions → (at < length book.records.now → rank s x t ≤ key (get_or book.records.now at no_record)) → outcomes (list_means book) n s x j ≡ outcomes (list_means book) n s x t
     skipped t l m first =
-        skip_to (list_means book) n s x t j l (λ i d q. share_is i (omega arith) ∙ ap (λ (f : Record). f.share) (gap book.records.now at (place s x j) (place s x t) s x i below (from_there (place s x t) first) (omega arith) (omega arith)))
+        skip_to (list_means book) n s x t j l (λ i d q. share_is i (omega arith) ∙ ap (λ (f : Record). f.share) (gap book.records.now at (rank s x j) (rank s x t) s x i below (from_there (rank s x t) first) (omega arith) (omega arith)))
 
     -- the record there is of another row: the row is at its end
     pub finished : j ≤ book.conditions → (at < length book.records.now → ((get_or book.records.now at no_record).condition ≡ s) × ((get_or book.records.now at no_record).remedy ≡ x) → ⊥) → outcomes (list_means book) n s x j ≡ outcomes (list_means book) n s x book.conditions
@@ -92,13 +92,13 @@ module _ (book : ListBook) (n s x : ℕ) where
           let gain : z ≡ (list_means book).amount n s x t = amount ∙ sym (amount_is t tl ∙ ap (λ (f : Record). f.amount) hit) in
           written_more (list_means book) n s x t row count _ fits (so ∙ skipped t later (omega arith) (λ m. omega arith)) (λ i. record { next = t; share = share i; amount = gain i }) (subst (λ (k : ℕ). 0 < k) share (book.records_valued at l).0)
 
-      pub below_more : (i : ℕ) → i < at + 1 → key (get_or book.records.now i no_record) < place s x ((get_or book.records.now at no_record).next + 1)
+      pub below_more : (i : ℕ) → i < at + 1 → key (get_or book.records.now i no_record) < rank s x ((get_or book.records.now at no_record).next + 1)
       below_more i m =
           let u = later in
           ⊎_elim
           (λ (d : i < at). let v = below i d in omega arith)
-          (λ (d : at ≤ i). let same : at ≡ i = omega arith in subst (λ (k : ℕ). key (get_or book.records.now k no_record) < place s x ((get_or book.records.now at no_record).next + 1)) same (omega arith))
+          (λ (d : at ≤ i). let same : at ≡ i = omega arith in subst (λ (k : ℕ). key (get_or book.records.now k no_record) < rank s x ((get_or book.records.now at no_record).next + 1)) same (omega arith))
           (cases_lt i at)
 
-      pub above_more : (i : ℕ) → at + 1 ≤ i → i < length book.records.now → place s x ((get_or book.records.now at no_record).next + 1) ≤ key (get_or book.records.now i no_record)
+      pub above_more : (i : ℕ) → at + 1 ≤ i → i < length book.records.now → rank s x ((get_or book.records.now at no_record).next + 1) ≤ key (get_or book.records.now i no_record)
       above_more i m d = let v = book.records_rise at i (omega arith) d in omega arith

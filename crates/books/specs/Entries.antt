@@ -36,12 +36,12 @@ AllValued parts es = (i : ℕ) → i < length es → (1 ≤ (slice_index_or es i
 abbrev pub Rising : Record → Record → Type 0
 Rising d e = (d.condition < e.condition) ⊎ ((d.condition ≡ e.condition) × ((d.remedy < e.remedy) ⊎ ((d.remedy ≡ e.remedy) × (d.next < e.next))))
 
--- a condition, a remedy and a next condition as one number that rises with them, within the largest sizes
-abbrev pub place : (s x j : ℕ) → ℕ
-place s x j = s * 256 + x * 32 + j
+-- the rank of a condition, a remedy and a next condition: one number that rises with them, within the largest sizes
+abbrev pub rank : (s x j : ℕ) → ℕ
+rank s x j = s * 256 + x * 32 + j
 
 abbrev pub key : Record → ℕ
-key e = place e.condition e.remedy e.next
+key e = rank e.condition e.remedy e.next
 
 abbrev pub KeysRise : List Record → Type 0
 KeysRise es = (i j : ℕ) → i < j → j < length es → key (slice_index_or es i no_record) < key (slice_index_or es j no_record)

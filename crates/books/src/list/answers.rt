@@ -1,7 +1,7 @@
 // What a list book answers.
 ghost use Rattle.std.specs.Prelude.{◌≡◌, ℕ, ◌<◌, ◌≤◌, length, slice_index_or};
 ghost use Rattle.books.specs.Alike.{some_above};
-ghost use Rattle.books.specs.Entries.{AllPlaced, KeysRise, key, place, no_record};
+ghost use Rattle.books.specs.Entries.{AllPlaced, KeysRise, key, rank, no_record};
 ghost use Rattle.books.specs.Listed.{listed};
 ghost use Rattle.books.specs.Lawfuls.{list_lawful};
 ghost use Rattle.books.specs.Means.{list_means};
@@ -15,7 +15,7 @@ use model::row::Outcome;
 // A condition, a remedy and a next condition as one number that rises with them.
 fn place_of(condition: usize, remedy: usize, next: usize) -> usize
     requires { (condition < 32) × (remedy < 8) × (next < 32) }
-    ensures { result ≡ place condition remedy next }
+    ensures { result ≡ rank condition remedy next }
 {
     condition * 256 + remedy * 32 + next
 }
@@ -83,8 +83,8 @@ impl<'a> ListBook<'a> {
     // How many of the records stand before the row of a condition and a remedy.
     fn first_of(&self, condition: usize, remedy: usize) -> usize
         requires { (condition < self.now.conditions) × (remedy < self.now.remedies) }
-        ensures below { (i : ℕ) → i < result → key (slice_index_or self.now.records.now i no_record) < place condition remedy 0 }
-        ensures above { (i : ℕ) → result ≤ i → i < length self.now.records.now → place condition remedy 0 ≤ key (slice_index_or self.now.records.now i no_record) }
+        ensures below { (i : ℕ) → i < result → key (slice_index_or self.now.records.now i no_record) < rank condition remedy 0 }
+        ensures above { (i : ℕ) → result ≤ i → i < length self.now.records.now → rank condition remedy 0 ≤ key (slice_index_or self.now.records.now i no_record) }
     {
         self.starts[condition * 8 + remedy]
     }
