@@ -1,6 +1,6 @@
 use Rattle.std.proofs.Common.{◌≡◌, ℕ, ◌<◌, ◌≤◌, length, get_or, take}
 use Rattle.model.specs.Rows.{outcomes}
-use Rattle.books.specs.Entries.{no_record, place, key}
+use Rattle.books.specs.Entries.{no_record, rank, key}
 use Rattle.books.specs.Means.{list_means}
 use Rattle.books.proofs.list.answers.ListBookBook.row.Given as goal
 
@@ -12,5 +12,5 @@ invariant-loop-at l =
     × (l.count ≤ j)
     × (length l.row ≡ 32)
     × (take l.count l.row ≡ outcomes (list_means l.self) l.visit l.condition l.remedy j)
-    × ((i : ℕ) → i < l.at → key (get_or l.self.records.now i no_record) < place l.condition l.remedy j)
-    × ((i : ℕ) → l.at ≤ i → i < length l.self.records.now → place l.condition l.remedy j ≤ key (get_or l.self.records.now i no_record))
+    × ((i : ℕ) → i < l.at → key (get_or l.self.records.now i no_record) < rank l.condition l.remedy j)
+    × ((i : ℕ) → l.at ≤ i → i < length l.self.records.now → rank l.condition l.remedy j ≤ key (get_or l.self.records.now i no_record))
