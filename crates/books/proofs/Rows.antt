@@ -1,17 +1,22 @@
 -- The records of a row are its outcomes.
-use Rattle.std.proofs.Common.{◌≡◌, ℕ, zero, suc, ◌+◌, ◌<◌, ◌≤◌, Bool, true, false, cond, ◌&&◌, ltb, List, [], length, get_or, take, set, ℤ, pos, sym, refl, ap, ◌∙◌, subst, ⊎_elim, arith}
+use Rattle.std.proofs.Common.{◌≡◌, ℕ, zero, suc, ◌+◌, ◌<◌, ◌≤◌, Bool, true, false, cond, ◌&&◌, ltb, List, [], ◌∷◌, ◌++◌, length, get_or, take, drop, ◌-◌, ℤ, pos, sym, refl, ap, ◌∙◌, subst, ⊎_elim, arith}
 use Rattle.std.proofs.lemmas.Bool.{cond-true, cond-false, and_from, and_parts, ltb-true, cases_lt, cases_order, lt-ltb, le-ltb}
+use Rattle.std.proofs.lemmas.List.{get_or-take, get_or-drop}
 use Rattle.model.specs.Model.{Model}
-use Rattle.model.specs.Rows.{outcomes}
+use Rattle.model.specs.Rows.{outcome, outcomes}
 use Rattle.model.specs.declared.row.Outcome.{Outcome}
-use Rattle.model.proofs.Listing.{written_more}
+use Rattle.model.proofs.Listing.{listed_more}
 use Rattle.books.specs.declared.list.ListBook.{ListBook}
 use Rattle.books.specs.declared.record.Record.{Record}
 use Rattle.books.specs.Alike.{inside}
-use Rattle.books.specs.Entries.{no_record, rank, key}
+use Rattle.books.specs.Entries.{no_record, outcome_of, rank, key}
 use Rattle.books.specs.Listed.{listed}
 use Rattle.books.specs.Means.{list_means}
 use Rattle.books.proofs.Lookups.{listed_none, listed_hit, about_not}
+
+-- an element of the records from the first on
+pub from_first : (es : List Record) (m i : ℕ) → i < length es - m → get_or (take (length es - m) (drop m es)) i no_record ≡ get_or es (m + i) no_record
+from_first es m i l = get_or-take (length es - m) (drop m es) i no_record l ∙ get_or-drop m es i no_record
 
 -- shares of 0 add no outcome
 skip_to : (m : Model) (n s x t j : ℕ) → j ≤ t → ((i : ℕ) → j ≤ i → i < t → m.share n s x i ≡ 0) → outcomes m n s x j ≡ outcomes m n s x t
@@ -83,14 +88,17 @@ module _ (book : ListBook) (n s x : ℕ) where
       pub later : j ≤ (get_or book.records.now at no_record).next
       later = let u = above at (omega arith) l in omega arith
 
-      pub written : (row : List Outcome) (count : ℕ) (z : ℤ) → count < length row → z ≡ (get_or book.records.now at no_record).amount → take count row ≡ outcomes (list_means book) n s x j → take (count + 1) (set row count (record { next = (get_or book.records.now at no_record).next; share = (get_or book.records.now at no_record).share; amount = z })) ≡ outcomes (list_means book) n s x ((get_or book.records.now at no_record).next + 1)
-      written row count z fits amount so =
+      pub written : (row : List Outcome) (o : Outcome) → o ≡ outcome_of (get_or book.records.now at no_record) → row ≡ outcomes (list_means book) n s x j → row ++ (o ∷ []) ≡ outcomes (list_means book) n s x ((get_or book.records.now at no_record).next + 1)
+      written row o told so =
           let t = (get_or book.records.now at no_record).next in
           let tl = (book.records_placed at l).2 in
           let hit : listed book.records.now s x t ≡ get_or book.records.now at no_record = listed_hit book.records.now s x t at book.records_rise l a b refl in
           let share : (get_or book.records.now at no_record).share ≡ (list_means book).share n s x t = sym (share_is t tl ∙ ap (λ (f : Record). f.share) hit) in
-          let gain : z ≡ (list_means book).amount n s x t = amount ∙ sym (amount_is t tl ∙ ap (λ (f : Record). f.amount) hit) in
-          written_more (list_means book) n s x t row count _ fits (so ∙ skipped t later (omega arith) (λ m. omega arith)) (λ i. record { next = t; share = share i; amount = gain i }) (subst (λ (k : ℕ). 0 < k) share (book.records_valued at l).0)
+          let gain : (get_or book.records.now at no_record).amount ≡ (list_means book).amount n s x t = sym (amount_is t tl ∙ ap (λ (f : Record). f.amount) hit) in
+          let same : o ≡ outcome (list_means book) n s x t = told ∙ (λ i. record { next = t; share = share i; amount = gain i }) in
+          ap (λ (xs : List Outcome). xs ++ (o ∷ [])) (so ∙ skipped t later (omega arith) (λ m. omega arith))
+          ∙ ap (λ (y : Outcome). outcomes (list_means book) n s x t ++ (y ∷ [])) same
+          ∙ listed_more (list_means book) n s x t (subst (λ (k : ℕ). 0 < k) share (book.records_valued at l).0)
 
       pub below_more : (i : ℕ) → i < at + 1 → key (get_or book.records.now i no_record) < rank s x ((get_or book.records.now at no_record).next + 1)
       below_more i m =

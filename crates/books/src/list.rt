@@ -1,5 +1,5 @@
 ghost use Rattle.std.specs.Prelude.{◌≡◌, ◌≤◌, length};
-ghost use Rattle.books.specs.Entries.{AllPlaced, AllValued, KeysRise, AllSmall, StartsBelow, StartsAbove};
+ghost use Rattle.books.specs.Entries.{AllPlaced, AllValued, KeysRise, AllSmall, StartsWithin, StartsBelow, StartsAbove};
 
 mod answers;
 mod making;
@@ -28,6 +28,7 @@ pub struct ListBook<'a> {
     ghost records_valued: { AllValued parts records.now },
     ghost records_rise: { KeysRise records.now },
     ghost worths_small: { AllSmall worths.now },
+    ghost starts_within: { StartsWithin 256 records.now starts },
     ghost starts_below: { StartsBelow 256 records.now starts },
     ghost starts_above: { StartsAbove 256 records.now starts },
 }

@@ -1,4 +1,7 @@
 ghost use Rattle.std.specs.Prelude.{◌≡◌};
+ghost use Rattle.books.specs.Entries.{outcome_of};
+
+use model::row::Outcome;
 
 // Where a record stands in its list: records rise by condition, then remedy, then next condition.
 #[derive(Clone, Copy, Debug, PartialEq, Eq, PartialOrd, Ord)]
@@ -28,6 +31,16 @@ impl Record {
             condition: self.condition,
             remedy: self.remedy,
             next: self.next,
+        }
+    }
+
+    pub(crate) fn outcome(&self) -> Outcome
+        ensures { result ≡ outcome_of self.now }
+    {
+        Outcome {
+            next: self.next,
+            share: self.share,
+            amount: self.amount,
         }
     }
 }

@@ -10,7 +10,7 @@ use super::ListBook;
 use crate::limits::{is_inside, last_alike};
 use crate::record::Record;
 use model::Book;
-use model::row::Outcome;
+use model::row::Row;
 
 // A condition, a remedy and a next condition as one number that rises with them.
 fn place_of(condition: usize, remedy: usize, next: usize) -> usize
@@ -24,6 +24,7 @@ fn place_of(condition: usize, remedy: usize, next: usize) -> usize
 pub(super) fn before(records: &[Record], wanted: usize) -> usize
     requires placed { AllPlaced 32 8 records.now }
     requires rise { KeysRise records.now }
+    ensures within { result ≤ length records.now }
     ensures below { (i : ℕ) → i < result → key (slice_index_or records.now i no_record) < wanted }
     ensures above { (i : ℕ) → result ≤ i → i < length records.now → wanted ≤ key (slice_index_or records.now i no_record) }
 {
@@ -83,6 +84,7 @@ impl<'a> ListBook<'a> {
     // How many of the records stand before the row of a condition and a remedy.
     fn first_of(&self, condition: usize, remedy: usize) -> usize
         requires { (condition < self.now.conditions) × (remedy < self.now.remedies) }
+        ensures within { result ≤ length self.now.records.now }
         ensures below { (i : ℕ) → i < result → key (slice_index_or self.now.records.now i no_record) < rank condition remedy 0 }
         ensures above { (i : ℕ) → result ≤ i → i < length self.now.records.now → rank condition remedy 0 ≤ key (slice_index_or self.now.records.now i no_record) }
     {
@@ -157,25 +159,18 @@ impl<'a> Book for ListBook<'a> {
         }
     }
 
-    fn row(&self, visit: usize, condition: usize, remedy: usize, row: &mut [Outcome; 32]) -> usize {
-        let inside = is_inside(self.conditions, self.remedies, visit, condition, remedy);
-        if !inside {
-            return 0;
+    fn row(&self, visit: usize, condition: usize, remedy: usize, row: &mut Row) {
+        row.clear();
+        if !is_inside(self.conditions, self.remedies, visit, condition, remedy) {
+            return;
         }
-        let mut count: usize = 0;
-        for at in self.first_of(condition, remedy)..self.records.len() {
-            let found = self.records[at];
+        let first = self.first_of(condition, remedy);
+        for found in &self.records[first..] {
             if found.condition != condition || found.remedy != remedy {
                 break;
             }
-            row[count] = Outcome {
-                next: found.next,
-                share: found.share,
-                amount: found.amount,
-            };
-            count += 1;
+            row.push(found.outcome());
         }
-        count
     }
 
     fn alike_until(&self, visit: usize) -> usize {

@@ -1,6 +1,6 @@
 // Making a list book.
 ghost use Rattle.std.specs.Prelude.{[], ◌∷◌, length, pos, Decides};
-ghost use Rattle.books.specs.Entries.{RecordFits, Rising, AllPlaced, KeysRise, StartsBelow, StartsAbove};
+ghost use Rattle.books.specs.Entries.{RecordFits, Rising, AllPlaced, KeysRise, StartsWithin, StartsBelow, StartsAbove};
 ghost use Rattle.books.specs.Making.{FirstFailing, Entered, ListChecked};
 ghost use Rattle.books.specs.Made.{OfList, ListMade};
 
@@ -76,6 +76,7 @@ fn check(
 fn starts_of(records: &[Record]) -> [usize; 256]
     requires placed { AllPlaced 32 8 records.now }
     requires rise { KeysRise records.now }
+    ensures within { StartsWithin 256 records.now result }
     ensures below { StartsBelow 256 records.now result }
     ensures above { StartsAbove 256 records.now result }
 {

@@ -40,6 +40,7 @@ invariant_of-self c =
       records_valued = λ i l. let f = (entered i l).0 in (f.some_share, f.few_share, f.small_amount);
       records_rise = rise;
       worths_small = λ i l. (fits 3 i (inr (inr (refl, l)))).1 refl;
+      starts_within = c.starts_of.ensures.within;
       starts_below = c.starts_of.ensures.below;
       starts_above = c.starts_of.ensures.above;
     }
