@@ -1,5 +1,5 @@
 -- The records of a row are its outcomes.
-use Rattle.std.proofs.Common.{◌≡◌, ℕ, zero, suc, ◌+◌, ◌<◌, ◌≤◌, Bool, true, false, cond, ◌&&◌, ltb, List, [], ◌∷◌, ◌++◌, length, get_or, take, drop, ◌-◌, ℤ, pos, sym, refl, ap, ◌∙◌, subst, ⊎_elim, arith}
+use Rattle.std.proofs.Common.{◌≡◌, ℕ, zero, suc, ◌+◌, ◌<◌, ◌≤◌, Bool, true, false, cond, ◌&&◌, ltb, List, [], ◌∷◌, ◌++◌, length, get_or, take, drop, ◌-◌, pos, sym, refl, ap, ◌∙◌, subst, ⊎_elim, arith}
 use Rattle.std.proofs.lemmas.Bool.{cond-true, cond-false, and_from, and_parts, ltb-true, cases_lt, cases_order, lt-ltb, le-ltb}
 use Rattle.std.proofs.lemmas.List.{get_or-take, get_or-drop}
 use Rattle.model.specs.Model.{Model}
@@ -47,20 +47,20 @@ past_row e s x j xl rl nl l away =
 
 module _ (book : ListBook) (n s x : ℕ) where
   -- outside the sizes a row has no outcome
-  pub outside : inside book.conditions book.remedies n s x ≡ false → [] ≡ outcomes (list_means book) n s x book.conditions
+  pub outside : inside book.sizes.conditions book.sizes.remedies n s x ≡ false → [] ≡ outcomes (list_means book) n s x book.sizes.conditions
   outside none =
-      skip_to (list_means book) n s x book.conditions 0 (omega arith) (λ j a l. ap (λ (b : Bool). cond (b && ltb j book.conditions) (listed book.records.now s x j).share 0) none)
+      skip_to (list_means book) n s x book.sizes.conditions 0 (omega arith) (λ j a l. ap (λ (b : Bool). cond (b && ltb j book.sizes.conditions) (listed book.records.now s x j).share 0) none)
 
   -- the first `at` records stand before next condition j of the row, the others do not
-  module _ (some : inside book.conditions book.remedies n s x ≡ true) (at j : ℕ) (below : (i : ℕ) → i < at → key (get_or book.records.now i no_record) < rank s x j) (above : (i : ℕ) → at ≤ i → i < length book.records.now → rank s x j ≤ key (get_or book.records.now i no_record)) where
-    here : (k : ℕ) → k < book.conditions → (inside book.conditions book.remedies n s x && ltb k book.conditions) ≡ true
-    here k l = and_from (inside book.conditions book.remedies n s x) (ltb k book.conditions) some (lt-ltb k book.conditions l)
+  module _ (some : inside book.sizes.conditions book.sizes.remedies n s x ≡ true) (at j : ℕ) (below : (i : ℕ) → i < at → key (get_or book.records.now i no_record) < rank s x j) (above : (i : ℕ) → at ≤ i → i < length book.records.now → rank s x j ≤ key (get_or book.records.now i no_record)) where
+    here : (k : ℕ) → k < book.sizes.conditions → (inside book.sizes.conditions book.sizes.remedies n s x && ltb k book.sizes.conditions) ≡ true
+    here k l = and_from (inside book.sizes.conditions book.sizes.remedies n s x) (ltb k book.sizes.conditions) some (lt-ltb k book.sizes.conditions l)
 
-    share_is : (k : ℕ) → k < book.conditions → (list_means book).share n s x k ≡ (listed book.records.now s x k).share
-    share_is k l = cond-true (inside book.conditions book.remedies n s x && ltb k book.conditions) (listed book.records.now s x k).share 0 (here k l)
+    share_is : (k : ℕ) → k < book.sizes.conditions → (list_means book).share n s x k ≡ (listed book.records.now s x k).share
+    share_is k l = cond-true (inside book.sizes.conditions book.sizes.remedies n s x && ltb k book.sizes.conditions) (listed book.records.now s x k).share 0 (here k l)
 
-    amount_is : (k : ℕ) → k < book.conditions → (list_means book).amount n s x k ≡ (listed book.records.now s x k).amount
-    amount_is k l = cond-true (inside book.conditions book.remedies n s x && ltb k book.conditions) (listed book.records.now s x k).amount (pos 0) (here k l)
+    amount_is : (k : ℕ) → k < book.sizes.conditions → (list_means book).amount n s x k ≡ (listed book.records.now s x k).amount
+    amount_is k l = cond-true (inside book.sizes.conditions book.sizes.remedies n s x && ltb k book.sizes.conditions) (listed book.records.now s x k).amount (pos 0) (here k l)
 
     -- a place that the record there does not stand before, the later ones do not either
     from_there : (w : ℕ) → (at < length book.records.now → w ≤ key (get_or book.records.now at no_record)) → (i : ℕ) → at ≤ i → i < length book.records.now → w ≤ key (get_or book.records.now i no_record)
@@ -71,17 +71,17 @@ module _ (book : ListBook) (n s x : ℕ) where
         (cases_lt at i)
 
     -- no share from j to a next condition that the record there does not stand before
-    skipped : (t : ℕ) → j ≤ t → t ≤ book.conditions → (at < length book.records.now → rank s x t ≤ key (get_or book.records.now at no_record)) → outcomes (list_means book) n s x j ≡ outcomes (list_means book) n s x t
+    skipped : (t : ℕ) → j ≤ t → t ≤ book.sizes.conditions → (at < length book.records.now → rank s x t ≤ key (get_or book.records.now at no_record)) → outcomes (list_means book) n s x j ≡ outcomes (list_means book) n s x t
     skipped t l m first =
         skip_to (list_means book) n s x t j l (λ i d q. share_is i (omega arith) ∙ ap (λ (f : Record). f.share) (gap book.records.now at (rank s x j) (rank s x t) s x i below (from_there (rank s x t) first) (omega arith) (omega arith)))
 
     -- the record there is of another row: the row is at its end
-    pub finished : j ≤ book.conditions → (at < length book.records.now → ((get_or book.records.now at no_record).condition ≡ s) × ((get_or book.records.now at no_record).remedy ≡ x) → ⊥) → outcomes (list_means book) n s x j ≡ outcomes (list_means book) n s x book.conditions
+    pub finished : j ≤ book.sizes.conditions → (at < length book.records.now → ((get_or book.records.now at no_record).condition ≡ s) × ((get_or book.records.now at no_record).remedy ≡ x) → ⊥) → outcomes (list_means book) n s x j ≡ outcomes (list_means book) n s x book.sizes.conditions
     finished l away =
-        let few = book.few_conditions in
-        let few_remedies = book.few_remedies in
-        let xl = ltb-true x book.remedies (and_parts _ (ltb x book.remedies) some).1 in
-        skipped book.conditions l (omega arith) (λ m. let p = book.records_placed at m in let q = past_row (get_or book.records.now at no_record) s x j (omega arith) (omega arith) (omega arith) (above at (omega arith) m) (away m) in omega arith)
+        let few = book.sizes.fit.few_conditions in
+        let few_remedies = book.sizes.fit.few_remedies in
+        let xl = ltb-true x book.sizes.remedies (and_parts _ (ltb x book.sizes.remedies) some).1 in
+        skipped book.sizes.conditions l (omega arith) (λ m. let p = book.records_placed at m in let q = past_row (get_or book.records.now at no_record) s x j (omega arith) (omega arith) (omega arith) (above at (omega arith) m) (away m) in omega arith)
 
     -- it is of the row: one outcome more
     module _ (l : at < length book.records.now) (a : (get_or book.records.now at no_record).condition ≡ s) (b : (get_or book.records.now at no_record).remedy ≡ x) where

@@ -7,7 +7,7 @@ pub loop-index-preserved : goal.loop-index-preserved
 loop-index-preserved c =
     let at = c.loop-index.index in
     let es = c.args.records.now in
-    let fits : RecordFits c.args.conditions c.args.remedies c.args.parts (get_or es at no_record) = c.record_fits.ensures.0 c.if-not-record_fits.false in
+    let fits : RecordFits c.args.sizes.conditions c.args.sizes.remedies c.args.sizes.parts (get_or es at no_record) = c.record_fits.ensures.0 c.if-not-record_fits.false in
     let Rises : ℕ → Type 0 = λ k. Rising (get_or es k no_record) (get_or es at no_record) in
     below_more _ _ c.loop-index.invariant (
       fits,

@@ -8,7 +8,7 @@ use Rattle.books.proofs.list.answers.ListBookBook.row.Given as goal
 abbrev pub invariant-loop-found : goal.invariant-loop-found
 invariant-loop-found l =
     (j : ℕ)
-    × (j ≤ l.self.conditions)
+    × (j ≤ l.self.sizes.conditions)
     × (length l.row.items ≤ j)
     × (l.row.items ≡ outcomes (list_means l.self) l.visit l.condition l.remedy j)
     × ((i : ℕ) → i < l.first + l.found-index → key (get_or l.self.records.now i no_record) < rank l.condition l.remedy j)
