@@ -8,7 +8,7 @@ use super::ListBook;
 use super::answers::before;
 use crate::limits::{first_large, is_small};
 use crate::record::Record;
-use crate::refusal::MakingRefusal;
+use crate::refusal::{MakingRefusal, Table};
 use crate::sizes::Sizes;
 
 // Whether a record is within the sizes and its share and amount within the limits.
@@ -59,10 +59,16 @@ fn check(sizes: Sizes, records: &[Record], worths: &[i64]) -> Result<(), MakingR
         return Err(MakingRefusal::Size);
     }
     if let Some(index) = first_unfit(sizes, records) {
-        return Err(MakingRefusal::Entry { table: 1, index });
+        return Err(MakingRefusal::Entry {
+            table: Table::Outcomes,
+            index,
+        });
     }
     if let Some(index) = first_large(worths) {
-        return Err(MakingRefusal::Entry { table: 3, index });
+        return Err(MakingRefusal::Entry {
+            table: Table::Worths,
+            index,
+        });
     }
     Ok(())
 }

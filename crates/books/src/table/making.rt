@@ -5,7 +5,7 @@ ghost use Rattle.books.specs.Made.{OfTables, TableNew, TableMade};
 
 use super::TableBook;
 use crate::limits::first_large;
-use crate::refusal::MakingRefusal;
+use crate::refusal::{MakingRefusal, Table};
 use crate::sizes::Sizes;
 
 // The first share above the parts.
@@ -36,13 +36,22 @@ fn check(sizes: Sizes, shares: &[u32], amounts: &[i64], worths: &[i64]) -> Resul
         return Err(MakingRefusal::Size);
     }
     if let Some(index) = first_over(sizes.parts, shares) {
-        return Err(MakingRefusal::Entry { table: 1, index });
+        return Err(MakingRefusal::Entry {
+            table: Table::Outcomes,
+            index,
+        });
     }
     if let Some(index) = first_large(amounts) {
-        return Err(MakingRefusal::Entry { table: 2, index });
+        return Err(MakingRefusal::Entry {
+            table: Table::Amounts,
+            index,
+        });
     }
     if let Some(index) = first_large(worths) {
-        return Err(MakingRefusal::Entry { table: 3, index });
+        return Err(MakingRefusal::Entry {
+            table: Table::Worths,
+            index,
+        });
     }
     Ok(())
 }
