@@ -14,12 +14,7 @@ pub(crate) fn is_small(money: i64) -> bool
 pub(crate) fn first_large(moneys: &[i64]) -> Option<usize>
     ensures { FirstFailing (λ i. SmallMoney (slice_index_or moneys.now i (pos 0))) (length moneys.now) result }
 {
-    for (index, money) in moneys.iter().enumerate() {
-        if !is_small(*money) {
-            return Some(index);
-        }
-    }
-    None
+    moneys.iter().position(|money| !is_small(*money))
 }
 
 // The last visit of those that are alike from this one on: 48 from 1 to 48.

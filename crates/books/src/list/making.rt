@@ -1,5 +1,5 @@
 // Making a list book.
-ghost use Rattle.std.specs.Prelude.{[], ◌∷◌, length, pos, Decides};
+ghost use Rattle.std.specs.Prelude.{[], ◌∷◌, length, pos, ◌<◌, Decides};
 ghost use Rattle.books.specs.Entries.{RecordFits, Rising, AllPlaced, KeysRise, StartsWithin, StartsBelow, StartsAbove};
 ghost use Rattle.books.specs.Making.{FirstFailing, Entered, ListChecked};
 ghost use Rattle.books.specs.Made.{OfList, ListNew, ListMade};
@@ -27,28 +27,23 @@ fn record_fits(sizes: Sizes, record: &Record) -> bool
 fn rises(first: &Record, second: &Record) -> bool
     ensures { Decides result (Rising first.now second.now) }
 {
-    if first.condition != second.condition {
-        return first.condition < second.condition;
-    }
-    if first.remedy != second.remedy {
-        return first.remedy < second.remedy;
-    }
-    first.next < second.next
+    first.place() < second.place()
+}
+
+// Whether a record is within its limits and stands after the one before it.
+fn is_entered(sizes: Sizes, records: &[Record], index: usize) -> bool
+    requires { index < length records.now }
+    ensures { Decides result (Entered sizes.conditions sizes.remedies sizes.parts records.now index) }
+{
+    record_fits(sizes, &records[index])
+        && (index == 0 || rises(&records[index - 1], &records[index]))
 }
 
 // The first record that is outside its limits, or does not stand after the one before it.
 fn first_unfit(sizes: Sizes, records: &[Record]) -> Option<usize>
     ensures { FirstFailing (Entered sizes.conditions sizes.remedies sizes.parts records.now) (length records.now) result }
 {
-    for (index, record) in records.iter().enumerate() {
-        if !record_fits(sizes, record) {
-            return Some(index);
-        }
-        if index > 0 && !rises(&records[index - 1], record) {
-            return Some(index);
-        }
-    }
-    None
+    (0..records.len()).position(|index| !is_entered(sizes, records, index))
 }
 
 // Whether records and worths make a book of these sizes, or the first reason why not.

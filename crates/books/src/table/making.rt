@@ -12,12 +12,7 @@ use crate::sizes::Sizes;
 fn first_over(parts: u32, shares: &[u32]) -> Option<usize>
     ensures { FirstFailing (λ i. slice_index shares.now i ≤ parts) (length shares.now) result }
 {
-    for (index, share) in shares.iter().enumerate() {
-        if *share > parts {
-            return Some(index);
-        }
-    }
-    None
+    shares.iter().position(|share| *share > parts)
 }
 
 // Whether the tables are as long as the sizes ask.
