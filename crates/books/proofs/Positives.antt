@@ -3,7 +3,7 @@ use Rattle.std.proofs.Common.{◌≡◌, ℕ, zero, suc, ◌<◌, ◌≤◌, Lis
 use lib.Arith.{digits_lt}
 use Rattle.std.proofs.lemmas.Bool.{cases_order}
 use Rattle.books.specs.declared.record.Record.{Record}
-use Rattle.books.specs.Entries.{SmallMoney, RecordFits, Rising, no_record, place, key}
+use Rattle.books.specs.Entries.{SmallMoney, RecordFits, Rising, no_record, rank, key}
 use Rattle.books.specs.Tables.{spot}
 use Rattle.books.specs.Kinds.{in_turn, positive, positive_records, PositivesMakeAList}
 use Rattle.books.proofs.Places.{in_first, in_third}
@@ -56,7 +56,7 @@ positive_fits : (c r parts s x j n : ℕ) (z : ℤ) → s < c → x < r → j < 
 positive_fits c r parts s x j zero z a b d l m = tt
 positive_fits c r parts s x j (suc n) z a b d l m = (record { some_condition = a; some_remedy = b; some_next = d; some_share = omega arith; few_share = l; small_amount = m }, tt)
 
-positive_between : (s x j n : ℕ) (z : ℤ) → Between (place s x j) (place s x (suc j)) (positive s x j n z)
+positive_between : (s x j n : ℕ) (z : ℤ) → Between (rank s x j) (rank s x (suc j)) (positive s x j n z)
 positive_between s x j zero z = omega arith
 positive_between s x j (suc n) z = (omega arith, omega arith)
 
@@ -82,7 +82,7 @@ positives_make_a_list c r parts shares amounts worths (shaped, fits) =
     let m : spot c r s x j < length shares = omega arith in
     let n : spot c r s x j < length amounts = omega arith in
     positive_fits c r parts s x j _ _ a b d ((fits 1 (spot c r s x j) (inl (refl, m))).0 refl) ((fits 2 (spot c r s x j) (inr (inl (refl, n)))).1 refl)))) in
-    let order : Between 0 (place c 0 0) es = between_turn c (λ s. place s 0 0) _ (λ s a. wider (place s 0 0) (place s r 0) (place (suc s) 0 0) _ (omega (arith, sizes.few_remedies)) (between_turn r (λ x. place s x 0) _ (λ x b. wider (place s x 0) (place s x c) (place s (suc x) 0) _ (omega (arith, sizes.few_conditions)) (between_turn c (λ j. place s x j) _ (λ j d. positive_between s x j _ _))))) in (
+    let order : Between 0 (rank c 0 0) es = between_turn c (λ s. rank s 0 0) _ (λ s a. wider (rank s 0 0) (rank s r 0) (rank (suc s) 0 0) _ (omega (arith, sizes.few_remedies)) (between_turn r (λ x. rank s x 0) _ (λ x b. wider (rank s x 0) (rank s x c) (rank s (suc x) 0) _ (omega (arith, sizes.few_conditions)) (between_turn c (λ j. rank s x j) _ (λ j d. positive_between s x j _ _))))) in (
       (sizes, shaped.3),
       λ t i h. (
         (λ e. let l = in_first _ _ _ t i h e in (
@@ -91,7 +91,7 @@ positives_make_a_list c r parts shares amounts worths (shaped, fits) =
               let m : suc k < length es = omega arith in
               let n : k < length es = omega arith in
               let P : ℕ → Type 0 = λ i'. Rising (get_or es k no_record) (get_or es i' no_record) in
-              subst P q (key_rising c r parts _ _ sizes.few_conditions sizes.few_remedies (fit_at c r parts es k fit n) (fit_at c r parts es (suc k) fit m) (between_step 0 (place c 0 0) es k order m)),
+              subst P q (key_rising c r parts _ _ sizes.few_conditions sizes.few_remedies (fit_at c r parts es k fit n) (fit_at c r parts es (suc k) fit m) (between_step 0 (rank c 0 0) es k order m)),
         )),
         (λ e. (fits 3 i (inr (inr (refl, in_third _ _ _ t i h e)))).2 refl),
       ),

@@ -1,17 +1,22 @@
 -- The records of a row are its outcomes.
-use Rattle.std.proofs.Common.{◌≡◌, ℕ, zero, suc, ◌+◌, ◌<◌, ◌≤◌, Bool, true, false, cond, ◌&&◌, ltb, List, [], length, get_or, take, set, ℤ, pos, sym, refl, ap, ◌∙◌, subst, ⊎_elim, arith}
+use Rattle.std.proofs.Common.{◌≡◌, ℕ, zero, suc, ◌+◌, ◌<◌, ◌≤◌, Bool, true, false, cond, ◌&&◌, ltb, List, [], ◌∷◌, ◌++◌, length, get_or, take, drop, ◌-◌, pos, sym, refl, ap, ◌∙◌, subst, ⊎_elim, arith}
 use Rattle.std.proofs.lemmas.Bool.{cond-true, cond-false, and_from, and_parts, ltb-true, cases_lt, cases_order, lt-ltb, le-ltb}
+use Rattle.std.proofs.lemmas.List.{get_or-take, get_or-drop}
 use Rattle.model.specs.Model.{Model}
-use Rattle.model.specs.Rows.{outcomes}
+use Rattle.model.specs.Rows.{outcome, outcomes}
 use Rattle.model.specs.declared.row.Outcome.{Outcome}
-use Rattle.model.proofs.Listing.{written_more}
+use Rattle.model.proofs.Listing.{listed_more}
 use Rattle.books.specs.declared.list.ListBook.{ListBook}
 use Rattle.books.specs.declared.record.Record.{Record}
 use Rattle.books.specs.Alike.{inside}
-use Rattle.books.specs.Entries.{no_record, place, key}
+use Rattle.books.specs.Entries.{no_record, outcome_of, rank, key}
 use Rattle.books.specs.Listed.{listed}
 use Rattle.books.specs.Means.{list_means}
 use Rattle.books.proofs.Lookups.{listed_none, listed_hit, about_not}
+
+-- an element of the records from the first on
+pub from_first : (es : List Record) (m i : ℕ) → i < length es - m → get_or (take (length es - m) (drop m es)) i no_record ≡ get_or es (m + i) no_record
+from_first es m i l = get_or-take (length es - m) (drop m es) i no_record l ∙ get_or-drop m es i no_record
 
 -- shares of 0 add no outcome
 skip_to : (m : Model) (n s x t j : ℕ) → j ≤ t → ((i : ℕ) → j ≤ i → i < t → m.share n s x i ≡ 0) → outcomes m n s x j ≡ outcomes m n s x t
@@ -25,12 +30,12 @@ skip_to m n s x (suc t) j l none =
     (cases_lt j (suc t))
 
 -- no record between two places
-gap : (es : List Record) (m lo hi s x j : ℕ) → ((i : ℕ) → i < m → key (get_or es i no_record) < lo) → ((i : ℕ) → m ≤ i → i < length es → hi ≤ key (get_or es i no_record)) → lo ≤ place s x j → place s x j < hi → listed es s x j ≡ no_record
+gap : (es : List Record) (m lo hi s x j : ℕ) → ((i : ℕ) → i < m → key (get_or es i no_record) < lo) → ((i : ℕ) → m ≤ i → i < length es → hi ≤ key (get_or es i no_record)) → lo ≤ rank s x j → rank s x j < hi → listed es s x j ≡ no_record
 gap es m lo hi s x j below above a b = listed_none es s x j (λ i l. about_not (get_or es i no_record) s x j (λ p.
     ⊎_elim (λ d. let u = below i d in omega arith) (λ d. let u = above i d l in omega arith) (cases_lt i m)))
 
 -- a record at or after a place of a row, and not of the row, is after the row
-past_row : (e : Record) (s x j : ℕ) → x < 8 → e.remedy < 8 → e.next < 32 → place s x j ≤ key e → ((e.condition ≡ s) × (e.remedy ≡ x) → ⊥) → place s x 32 ≤ key e
+past_row : (e : Record) (s x j : ℕ) → x < 8 → e.remedy < 8 → e.next < 32 → rank s x j ≤ key e → ((e.condition ≡ s) × (e.remedy ≡ x) → ⊥) → rank s x 32 ≤ key e
 past_row e s x j xl rl nl l away =
     ⊎_elim
     (λ (p : e.condition ≡ s). ⊎_elim
@@ -42,20 +47,20 @@ past_row e s x j xl rl nl l away =
 
 module _ (book : ListBook) (n s x : ℕ) where
   -- outside the sizes a row has no outcome
-  pub outside : inside book.conditions book.remedies n s x ≡ false → [] ≡ outcomes (list_means book) n s x book.conditions
+  pub outside : inside book.sizes.conditions book.sizes.remedies n s x ≡ false → [] ≡ outcomes (list_means book) n s x book.sizes.conditions
   outside none =
-      skip_to (list_means book) n s x book.conditions 0 (omega arith) (λ j a l. ap (λ (b : Bool). cond (b && ltb j book.conditions) (listed book.records.now s x j).share 0) none)
+      skip_to (list_means book) n s x book.sizes.conditions 0 (omega arith) (λ j a l. ap (λ (b : Bool). cond (b && ltb j book.sizes.conditions) (listed book.records.now s x j).share 0) none)
 
   -- the first `at` records stand before next condition j of the row, the others do not
-  module _ (some : inside book.conditions book.remedies n s x ≡ true) (at j : ℕ) (below : (i : ℕ) → i < at → key (get_or book.records.now i no_record) < place s x j) (above : (i : ℕ) → at ≤ i → i < length book.records.now → place s x j ≤ key (get_or book.records.now i no_record)) where
-    here : (k : ℕ) → k < book.conditions → (inside book.conditions book.remedies n s x && ltb k book.conditions) ≡ true
-    here k l = and_from (inside book.conditions book.remedies n s x) (ltb k book.conditions) some (lt-ltb k book.conditions l)
+  module _ (some : inside book.sizes.conditions book.sizes.remedies n s x ≡ true) (at j : ℕ) (below : (i : ℕ) → i < at → key (get_or book.records.now i no_record) < rank s x j) (above : (i : ℕ) → at ≤ i → i < length book.records.now → rank s x j ≤ key (get_or book.records.now i no_record)) where
+    here : (k : ℕ) → k < book.sizes.conditions → (inside book.sizes.conditions book.sizes.remedies n s x && ltb k book.sizes.conditions) ≡ true
+    here k l = and_from (inside book.sizes.conditions book.sizes.remedies n s x) (ltb k book.sizes.conditions) some (lt-ltb k book.sizes.conditions l)
 
-    share_is : (k : ℕ) → k < book.conditions → (list_means book).share n s x k ≡ (listed book.records.now s x k).share
-    share_is k l = cond-true (inside book.conditions book.remedies n s x && ltb k book.conditions) (listed book.records.now s x k).share 0 (here k l)
+    share_is : (k : ℕ) → k < book.sizes.conditions → (list_means book).share n s x k ≡ (listed book.records.now s x k).share
+    share_is k l = cond-true (inside book.sizes.conditions book.sizes.remedies n s x && ltb k book.sizes.conditions) (listed book.records.now s x k).share 0 (here k l)
 
-    amount_is : (k : ℕ) → k < book.conditions → (list_means book).amount n s x k ≡ (listed book.records.now s x k).amount
-    amount_is k l = cond-true (inside book.conditions book.remedies n s x && ltb k book.conditions) (listed book.records.now s x k).amount (pos 0) (here k l)
+    amount_is : (k : ℕ) → k < book.sizes.conditions → (list_means book).amount n s x k ≡ (listed book.records.now s x k).amount
+    amount_is k l = cond-true (inside book.sizes.conditions book.sizes.remedies n s x && ltb k book.sizes.conditions) (listed book.records.now s x k).amount (pos 0) (here k l)
 
     -- a place that the record there does not stand before, the later ones do not either
     from_there : (w : ℕ) → (at < length book.records.now → w ≤ key (get_or book.records.now at no_record)) → (i : ℕ) → at ≤ i → i < length book.records.now → w ≤ key (get_or book.records.now i no_record)
@@ -66,39 +71,42 @@ module _ (book : ListBook) (n s x : ℕ) where
         (cases_lt at i)
 
     -- no share from j to a next condition that the record there does not stand before
-    skipped : (t : ℕ) → j ≤ t → t ≤ book.conditions → (at < length book.records.now → place s x t ≤ key (get_or book.records.now at no_record)) → outcomes (list_means book) n s x j ≡ outcomes (list_means book) n s x t
+    skipped : (t : ℕ) → j ≤ t → t ≤ book.sizes.conditions → (at < length book.records.now → rank s x t ≤ key (get_or book.records.now at no_record)) → outcomes (list_means book) n s x j ≡ outcomes (list_means book) n s x t
     skipped t l m first =
-        skip_to (list_means book) n s x t j l (λ i d q. share_is i (omega arith) ∙ ap (λ (f : Record). f.share) (gap book.records.now at (place s x j) (place s x t) s x i below (from_there (place s x t) first) (omega arith) (omega arith)))
+        skip_to (list_means book) n s x t j l (λ i d q. share_is i (omega arith) ∙ ap (λ (f : Record). f.share) (gap book.records.now at (rank s x j) (rank s x t) s x i below (from_there (rank s x t) first) (omega arith) (omega arith)))
 
     -- the record there is of another row: the row is at its end
-    pub finished : j ≤ book.conditions → (at < length book.records.now → ((get_or book.records.now at no_record).condition ≡ s) × ((get_or book.records.now at no_record).remedy ≡ x) → ⊥) → outcomes (list_means book) n s x j ≡ outcomes (list_means book) n s x book.conditions
+    pub finished : j ≤ book.sizes.conditions → (at < length book.records.now → ((get_or book.records.now at no_record).condition ≡ s) × ((get_or book.records.now at no_record).remedy ≡ x) → ⊥) → outcomes (list_means book) n s x j ≡ outcomes (list_means book) n s x book.sizes.conditions
     finished l away =
-        let few = book.few_conditions in
-        let few_remedies = book.few_remedies in
-        let xl = ltb-true x book.remedies (and_parts _ (ltb x book.remedies) some).1 in
-        skipped book.conditions l (omega arith) (λ m. let p = book.records_placed at m in let q = past_row (get_or book.records.now at no_record) s x j (omega arith) (omega arith) (omega arith) (above at (omega arith) m) (away m) in omega arith)
+        let few = book.sizes.fit.few_conditions in
+        let few_remedies = book.sizes.fit.few_remedies in
+        let xl = ltb-true x book.sizes.remedies (and_parts _ (ltb x book.sizes.remedies) some).1 in
+        skipped book.sizes.conditions l (omega arith) (λ m. let p = book.records_placed at m in let q = past_row (get_or book.records.now at no_record) s x j (omega arith) (omega arith) (omega arith) (above at (omega arith) m) (away m) in omega arith)
 
     -- it is of the row: one outcome more
     module _ (l : at < length book.records.now) (a : (get_or book.records.now at no_record).condition ≡ s) (b : (get_or book.records.now at no_record).remedy ≡ x) where
       pub later : j ≤ (get_or book.records.now at no_record).next
       later = let u = above at (omega arith) l in omega arith
 
-      pub written : (row : List Outcome) (count : ℕ) (z : ℤ) → count < length row → z ≡ (get_or book.records.now at no_record).amount → take count row ≡ outcomes (list_means book) n s x j → take (count + 1) (set row count (record { next = (get_or book.records.now at no_record).next; share = (get_or book.records.now at no_record).share; amount = z })) ≡ outcomes (list_means book) n s x ((get_or book.records.now at no_record).next + 1)
-      written row count z fits amount so =
+      pub written : (row : List Outcome) (o : Outcome) → o ≡ outcome_of (get_or book.records.now at no_record) → row ≡ outcomes (list_means book) n s x j → row ++ (o ∷ []) ≡ outcomes (list_means book) n s x ((get_or book.records.now at no_record).next + 1)
+      written row o told so =
           let t = (get_or book.records.now at no_record).next in
           let tl = (book.records_placed at l).2 in
           let hit : listed book.records.now s x t ≡ get_or book.records.now at no_record = listed_hit book.records.now s x t at book.records_rise l a b refl in
           let share : (get_or book.records.now at no_record).share ≡ (list_means book).share n s x t = sym (share_is t tl ∙ ap (λ (f : Record). f.share) hit) in
-          let gain : z ≡ (list_means book).amount n s x t = amount ∙ sym (amount_is t tl ∙ ap (λ (f : Record). f.amount) hit) in
-          written_more (list_means book) n s x t row count _ fits (so ∙ skipped t later (omega arith) (λ m. omega arith)) (λ i. record { next = t; share = share i; amount = gain i }) (subst (λ (k : ℕ). 0 < k) share (book.records_valued at l).0)
+          let gain : (get_or book.records.now at no_record).amount ≡ (list_means book).amount n s x t = sym (amount_is t tl ∙ ap (λ (f : Record). f.amount) hit) in
+          let same : o ≡ outcome (list_means book) n s x t = told ∙ (λ i. record { next = t; share = share i; amount = gain i }) in
+          ap (λ (xs : List Outcome). xs ++ (o ∷ [])) (so ∙ skipped t later (omega arith) (λ m. omega arith))
+          ∙ ap (λ (y : Outcome). outcomes (list_means book) n s x t ++ (y ∷ [])) same
+          ∙ listed_more (list_means book) n s x t (subst (λ (k : ℕ). 0 < k) share (book.records_valued at l).0)
 
-      pub below_more : (i : ℕ) → i < at + 1 → key (get_or book.records.now i no_record) < place s x ((get_or book.records.now at no_record).next + 1)
+      pub below_more : (i : ℕ) → i < at + 1 → key (get_or book.records.now i no_record) < rank s x ((get_or book.records.now at no_record).next + 1)
       below_more i m =
           let u = later in
           ⊎_elim
           (λ (d : i < at). let v = below i d in omega arith)
-          (λ (d : at ≤ i). let same : at ≡ i = omega arith in subst (λ (k : ℕ). key (get_or book.records.now k no_record) < place s x ((get_or book.records.now at no_record).next + 1)) same (omega arith))
+          (λ (d : at ≤ i). let same : at ≡ i = omega arith in subst (λ (k : ℕ). key (get_or book.records.now k no_record) < rank s x ((get_or book.records.now at no_record).next + 1)) same (omega arith))
           (cases_lt i at)
 
-      pub above_more : (i : ℕ) → at + 1 ≤ i → i < length book.records.now → place s x ((get_or book.records.now at no_record).next + 1) ≤ key (get_or book.records.now i no_record)
+      pub above_more : (i : ℕ) → at + 1 ≤ i → i < length book.records.now → rank s x ((get_or book.records.now at no_record).next + 1) ≤ key (get_or book.records.now i no_record)
       above_more i m d = let v = book.records_rise at i (omega arith) d in omega arith

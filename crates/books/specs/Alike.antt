@@ -3,7 +3,7 @@ use Rattle.std.specs.Prelude.{ℕ, zero, suc, ◌≤◌, Bool, false, cond, ◌&
 use Rattle.model.specs.Model.{Model}
 
 -- sizes within the limits
-pub record Sizes (c r parts : ℕ) : Type 0 where
+pub record SizesFit (c r parts : ℕ) : Type 0 where
   pub some_condition : 1 ≤ c
   pub few_conditions : c ≤ 32
   pub some_remedy : 1 ≤ r

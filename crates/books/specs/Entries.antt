@@ -1,5 +1,6 @@
 -- Entries of tables and lists that keep their limits.
 use Rattle.std.specs.Prelude.{◌≡◌, ℕ, ◌+◌, ◌*◌, ◌<◌, ◌≤◌, ◌⊎◌, List, length, ℤ, pos, slice_index, slice_index_or, unsigned_abs}
+use Rattle.model.specs.declared.row.Outcome.{Outcome}
 use Rattle.books.specs.declared.record.Record.{Record}
 
 -- an amount or a worth that may be entered: a million at most, either way
@@ -15,6 +16,10 @@ SharesFit parts shares = (i : ℕ) → i < length shares → slice_index shares 
 -- what is unlisted
 abbrev pub no_record : Record
 no_record = record { condition = 0; remedy = 0; next = 0; share = 0; amount = pos 0 }
+
+-- what a record says may follow
+abbrev pub outcome_of : Record → Outcome
+outcome_of e = record { next = e.next; share = e.share; amount = e.amount }
 
 -- within the sizes; a listed share is at least 1
 pub record RecordFits (c r parts : ℕ) (e : Record) : Type 0 where
@@ -36,12 +41,12 @@ AllValued parts es = (i : ℕ) → i < length es → (1 ≤ (slice_index_or es i
 abbrev pub Rising : Record → Record → Type 0
 Rising d e = (d.condition < e.condition) ⊎ ((d.condition ≡ e.condition) × ((d.remedy < e.remedy) ⊎ ((d.remedy ≡ e.remedy) × (d.next < e.next))))
 
--- a condition, a remedy and a next condition as one number that rises with them, within the largest sizes
-abbrev pub place : (s x j : ℕ) → ℕ
-place s x j = s * 256 + x * 32 + j
+-- the rank of a condition, a remedy and a next condition: one number that rises with them, within the largest sizes
+abbrev pub rank : (s x j : ℕ) → ℕ
+rank s x j = s * 256 + x * 32 + j
 
 abbrev pub key : Record → ℕ
-key e = place e.condition e.remedy e.next
+key e = rank e.condition e.remedy e.next
 
 abbrev pub KeysRise : List Record → Type 0
 KeysRise es = (i j : ℕ) → i < j → j < length es → key (slice_index_or es i no_record) < key (slice_index_or es j no_record)
@@ -53,3 +58,7 @@ StartsBelow n es starts = (k i : ℕ) → k < n → i < slice_index starts k →
 
 abbrev pub StartsAbove : (n : ℕ) → List Record → (starts : List ℕ) → Type 0
 StartsAbove n es starts = (k i : ℕ) → k < n → (slice_index starts k ≤ i) × (i < length es) → k * 32 ≤ key (slice_index_or es i no_record)
+
+-- none starts past the end of the records
+abbrev pub StartsWithin : (n : ℕ) → List Record → (starts : List ℕ) → Type 0
+StartsWithin n es starts = (k : ℕ) → k < n → slice_index starts k ≤ length es

@@ -5,7 +5,7 @@ use Rattle.std.proofs.Math.Arith.{digits_lt}
 use Rattle.std.proofs.lemmas.Int.{ints}
 use Rattle.model.specs.Model.{Offers, offers, Money, Inside, Lawful}
 use Rattle.books.specs.declared.record.Record.{Record}
-use Rattle.books.specs.Alike.{Sizes, inside, some_above, alike}
+use Rattle.books.specs.Alike.{SizesFit, inside, some_above, alike}
 use Rattle.books.specs.Entries.{SmallMoney, AllSmall, SharesFit, AllValued}
 use Rattle.books.specs.Listed.{about, listed, list_model}
 use Rattle.books.specs.Tables.{spot, table_model}
@@ -42,7 +42,7 @@ inside_so o n s x h =
     let f = both (nat_le 1 n) (nat_le n 48) e.0 in
     record { first_visit = leb→le 1 n f.0; last_visit = leb→le n 48 f.1; some_condition = ltb→lt s o.conditions e.1; some_remedy = ltb→lt x o.remedies d.1 }
 
-module _ (c r parts : ℕ) (share : ℕ → ℕ → ℕ → ℕ) (amount : ℕ → ℕ → ℕ → ℤ) (worth : ℕ → ℤ) (sizes : Sizes c r parts)
+module _ (c r parts : ℕ) (share : ℕ → ℕ → ℕ → ℕ) (amount : ℕ → ℕ → ℕ → ℤ) (worth : ℕ → ℤ) (sizes : SizesFit c r parts)
     (shares : (s x j : ℕ) → s < c → x < r → j < c → share s x j ≤ parts) (amounts : (s x j : ℕ) → s < c → x < r → j < c → SmallMoney (amount s x j)) (worths : (s : ℕ) → s < c → SmallMoney (worth s)) where
   five : (n s x j : ℕ) → T (inside c r n s x && nat_lt j c) → Inside (offers (alike c r parts share amount worth)) n s x × (j < c)
   five n s x j h = let d = both _ (nat_lt j c) h in (inside_so (offers (alike c r parts share amount worth)) n s x d.0, ltb→lt j c d.1)
@@ -64,7 +64,7 @@ module _ (c r parts : ℕ) (share : ℕ → ℕ → ℕ → ℕ) (amount : ℕ �
     worth_inside = λ s h. ltb→lt s c (taken (nat_lt s c) (worth s) (pos 0) h);
   }
 
-pub table_lawful : (c r parts : ℕ) (shares : List ℕ) (amounts worths : List ℤ) → Sizes c r parts → length shares ≡ c * r * c → length amounts ≡ c * r * c → length worths ≡ c → SharesFit parts shares → AllSmall amounts → AllSmall worths → Lawful (table_model c r parts shares amounts worths)
+pub table_lawful : (c r parts : ℕ) (shares : List ℕ) (amounts worths : List ℤ) → SizesFit c r parts → length shares ≡ c * r * c → length amounts ≡ c * r * c → length worths ≡ c → SharesFit parts shares → AllSmall amounts → AllSmall worths → Lawful (table_model c r parts shares amounts worths)
 table_lawful c r parts shares amounts worths sizes long_s long_a long_w fit small worth =
     alike_lawful c r parts _ _ _ sizes
     (λ s x j a b d. let l = digits_lt (digits_lt a b) d in fit (spot c r s x j) (omega arith))
@@ -78,7 +78,7 @@ listed_fits parts (e ∷ es) s x j each =
     let here = each 0 (omega arith) in
     kept (about e s x j) e (listed es s x j) (λ f. (f.share ≤ parts) × SmallMoney f.amount) (λ t. (here.1, here.2)) rest
 
-pub list_lawful : (c r parts : ℕ) (es : List Record) (worths : List ℤ) → Sizes c r parts → length worths ≡ c → AllValued parts es → AllSmall worths → Lawful (list_model c r parts es worths)
+pub list_lawful : (c r parts : ℕ) (es : List Record) (worths : List ℤ) → SizesFit c r parts → length worths ≡ c → AllValued parts es → AllSmall worths → Lawful (list_model c r parts es worths)
 list_lawful c r parts es worths sizes long fit small =
     alike_lawful c r parts _ _ _ sizes
     (λ s x j a b d. (listed_fits parts es s x j fit).0)

@@ -3,7 +3,8 @@ use Rattle.std.specs.Prelude.{◌≡◌, ℕ, suc, ◌*◌, ◌<◌, ◌≤◌, 
 use Rattle.books.specs.declared.record.Record.{Record}
 use Rattle.books.specs.declared.refusal.MakingRefusal.{MakingRefusal}
 use Rattle.books.specs.declared.refusal.MakingRefusal.TheVariants.{Size, Entry}
-use Rattle.books.specs.Alike.{Sizes}
+use Rattle.books.specs.Alike.{SizesFit}
+use Rattle.books.specs.Refusals.{table_number}
 use Rattle.books.specs.Entries.{SmallMoney, RecordFits, Rising, no_record}
 
 -- entry i of table t keeps its limits: 1 shares, 2 amounts, 3 worths
@@ -27,17 +28,17 @@ abbrev pub Earlier : (t i t' i' : ℕ) → Type 0
 Earlier t i t' i' = (t < t') ⊎ ((t ≡ t') × (i < i'))
 
 abbrev pub TableShaped : (c r parts : ℕ) → List ℕ → List ℤ → List ℤ → Type 0
-TableShaped c r parts shares amounts worths = Sizes c r parts × (length shares ≡ c * r * c) × (length amounts ≡ c * r * c) × (length worths ≡ c)
+TableShaped c r parts shares amounts worths = SizesFit c r parts × (length shares ≡ c * r * c) × (length amounts ≡ c * r * c) × (length worths ≡ c)
 
 abbrev pub ListShaped : (c r parts : ℕ) → List ℤ → Type 0
-ListShaped c r parts worths = Sizes c r parts × (length worths ≡ c)
+ListShaped c r parts worths = SizesFit c r parts × (length worths ≡ c)
 
 -- the answer to tables, from their shape, their places and which entries fit: in order,
 -- or the first reason why not
 abbrev pub Checked : (shaped : Type 0) → (ℕ → ℕ → Type 0) → (ℕ → ℕ → Type 0) → Result (Unit {0}) MakingRefusal → Type 0
 Checked shaped has fits (Ok u) = shaped × ((t i : ℕ) → has t i → fits t i)
 Checked shaped has fits (Err Size) = shaped → ⊥
-Checked shaped has fits (Err (Entry t i)) = shaped × has t i × (fits t i → ⊥) × ((t' i' : ℕ) → has t' i' → Earlier t' i' t i → fits t' i')
+Checked shaped has fits (Err (Entry t i)) = shaped × has (table_number t) i × (fits (table_number t) i → ⊥) × ((t' i' : ℕ) → has t' i' → Earlier t' i' (table_number t) i → fits t' i')
 
 abbrev pub TableChecked : (c r parts : ℕ) → List ℕ → List ℤ → List ℤ → Result (Unit {0}) MakingRefusal → Type 0
 TableChecked c r parts shares amounts worths = Checked (TableShaped c r parts shares amounts worths) (InTable (length shares) (length amounts) (length worths)) (TableEntryFits parts shares amounts worths)

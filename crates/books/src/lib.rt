@@ -6,6 +6,7 @@ mod limits;
 pub mod list;
 pub mod record;
 pub mod refusal;
+pub mod sizes;
 pub mod table;
 #[cfg(test)]
 mod tests;

@@ -1,12 +1,32 @@
 ghost use Rattle.std.specs.Prelude.{◌≡◌};
-ghost use Rattle.books.specs.Refusals.{making_number, making_places};
+ghost use Rattle.books.specs.Refusals.{table_number, making_number, making_places};
 
-// Why a book is not made: its sizes, or an entry of one of its tables.
-// Tables count from 1: shares or records, amounts, worths; entries count from 0.
+// The tables that a book is made from; `Outcomes` are the shares, or the records of a list.
+#[derive(Clone, Copy, Debug, PartialEq, Eq)]
+pub enum Table {
+    Outcomes,
+    Amounts,
+    Worths,
+}
+
+impl Table {
+    // The number by which it is told: tables count from 1.
+    fn number(&self) -> usize
+        ensures { result ≡ table_number self.now }
+    {
+        match self {
+            Table::Outcomes => 1,
+            Table::Amounts => 2,
+            Table::Worths => 3,
+        }
+    }
+}
+
+// Why a book is not made: its sizes, or an entry of one of its tables; entries count from 0.
 #[derive(Clone, Copy, Debug, PartialEq, Eq)]
 pub enum MakingRefusal {
     Size,
-    Entry { table: usize, index: usize },
+    Entry { table: Table, index: usize },
 }
 
 impl MakingRefusal {
@@ -26,7 +46,7 @@ impl MakingRefusal {
     {
         match self {
             MakingRefusal::Size => (0, 0, 0),
-            MakingRefusal::Entry { table, index } => (*table, *index, 0),
+            MakingRefusal::Entry { table, index } => (table.number(), *index, 0),
         }
     }
 }

@@ -1,8 +1,8 @@
-ghost use Rattle.std.specs.Prelude.{◌≡◌, ℕ, ◌≤◌, length, take};
+ghost use Rattle.std.specs.Prelude.{◌≡◌, ℕ, ◌≤◌};
 ghost use Rattle.model.specs.Model.{Model, Lawful};
 ghost use Rattle.model.specs.Rows.{outcomes, Alike};
 
-use super::row::Outcome;
+use super::row::{Outcome, Row};
 
 // A book of remedies: sizes, parts and four answers. Conditions and remedies count from 0, visits from 1.
 // `model` is all of it as one value; every number may be asked, and beyond the sizes, or at a visit
@@ -37,24 +37,21 @@ pub trait Book {
     fn worth(&self, condition: usize) -> i64
         ensures { result ≡ (model self.now).worth condition };
 
-    // Writes the outcomes of share above 0 into the first places of `row`, in order of the next condition,
-    // and answers how many there are.
-    fn row(&self, visit: usize, condition: usize, remedy: usize, row: &mut [Outcome; 32]) -> usize
-        ensures { (result ≤ 32) × (take result row.new ≡ outcomes (model self.now) visit condition remedy (model self.now).conditions) }
+    // Makes `row` the outcomes of share above 0, in order of the next condition.
+    fn row(&self, visit: usize, condition: usize, remedy: usize, row: &mut Row)
+        ensures { row.new.items ≡ outcomes (model self.now) visit condition remedy (model self.now).conditions }
     {
-        let mut count: usize = 0;
+        row.clear();
         for next in 0..self.conditions() {
             let share = self.share(visit, condition, remedy, next);
             if share > 0 {
-                row[count] = Outcome {
+                row.push(Outcome {
                     next,
                     share,
                     amount: self.amount(visit, condition, remedy, next),
-                };
-                count += 1;
+                });
             }
         }
-        count
     }
 
     // A visit from which back to this one every answer is the same: this one itself, unless the book knows better.

@@ -1,21 +1,21 @@
 // What a list book answers.
 ghost use Rattle.std.specs.Prelude.{◌≡◌, ℕ, ◌<◌, ◌≤◌, length, slice_index_or};
 ghost use Rattle.books.specs.Alike.{some_above};
-ghost use Rattle.books.specs.Entries.{AllPlaced, KeysRise, key, place, no_record};
+ghost use Rattle.books.specs.Entries.{AllPlaced, KeysRise, key, rank, no_record};
 ghost use Rattle.books.specs.Listed.{listed};
 ghost use Rattle.books.specs.Lawfuls.{list_lawful};
 ghost use Rattle.books.specs.Means.{list_means};
 
 use super::ListBook;
-use crate::limits::{is_inside, last_alike};
+use crate::limits::last_alike;
 use crate::record::Record;
 use model::Book;
-use model::row::Outcome;
+use model::row::Row;
 
 // A condition, a remedy and a next condition as one number that rises with them.
 fn place_of(condition: usize, remedy: usize, next: usize) -> usize
     requires { (condition < 32) × (remedy < 8) × (next < 32) }
-    ensures { result ≡ place condition remedy next }
+    ensures { result ≡ rank condition remedy next }
 {
     condition * 256 + remedy * 32 + next
 }
@@ -24,6 +24,7 @@ fn place_of(condition: usize, remedy: usize, next: usize) -> usize
 pub(super) fn before(records: &[Record], wanted: usize) -> usize
     requires placed { AllPlaced 32 8 records.now }
     requires rise { KeysRise records.now }
+    ensures within { result ≤ length records.now }
     ensures below { (i : ℕ) → i < result → key (slice_index_or records.now i no_record) < wanted }
     ensures above { (i : ℕ) → result ≤ i → i < length records.now → wanted ≤ key (slice_index_or records.now i no_record) }
 {
@@ -82,17 +83,18 @@ impl<'a> ListBook<'a> {
 
     // How many of the records stand before the row of a condition and a remedy.
     fn first_of(&self, condition: usize, remedy: usize) -> usize
-        requires { (condition < self.now.conditions) × (remedy < self.now.remedies) }
-        ensures below { (i : ℕ) → i < result → key (slice_index_or self.now.records.now i no_record) < place condition remedy 0 }
-        ensures above { (i : ℕ) → result ≤ i → i < length self.now.records.now → place condition remedy 0 ≤ key (slice_index_or self.now.records.now i no_record) }
+        requires { (condition < self.now.sizes.conditions) × (remedy < self.now.sizes.remedies) }
+        ensures within { result ≤ length self.now.records.now }
+        ensures below { (i : ℕ) → i < result → key (slice_index_or self.now.records.now i no_record) < rank condition remedy 0 }
+        ensures above { (i : ℕ) → result ≤ i → i < length self.now.records.now → rank condition remedy 0 ≤ key (slice_index_or self.now.records.now i no_record) }
     {
         self.starts[condition * 8 + remedy]
     }
 
     // Whether a record has this condition and this remedy.
     fn lists(&self, condition: usize, remedy: usize) -> bool
-        requires { (condition < self.now.conditions) × (remedy < self.now.remedies) }
-        ensures { result ≡ some_above (λ j. (listed self.now.records.now condition remedy j).share) self.now.conditions }
+        requires { (condition < self.now.sizes.conditions) × (remedy < self.now.sizes.remedies) }
+        ensures { result ≡ some_above (λ j. (listed self.now.records.now condition remedy j).share) self.now.sizes.conditions }
     {
         let at = self.first_of(condition, remedy);
         if at < self.records.len() {
@@ -108,31 +110,26 @@ impl<'a> ListBook<'a> {
 impl<'a> Book for ListBook<'a> {
     ghost model = { list_means };
 
-    ghost lawful = { λ b. list_lawful b.conditions b.remedies b.parts b.records.now b.worths.now (record { some_condition = b.some_condition; few_conditions = b.few_conditions; some_remedy = b.some_remedy; few_remedies = b.few_remedies; some_parts = b.some_parts; few_parts = b.few_parts }) b.worths_long b.records_valued b.worths_small };
+    ghost lawful = { λ b. list_lawful b.sizes.conditions b.sizes.remedies b.sizes.parts b.records.now b.worths.now b.sizes.fit b.worths_long b.records_valued b.worths_small };
 
     fn conditions(&self) -> usize {
-        self.conditions
+        self.sizes.conditions
     }
 
     fn remedies(&self) -> usize {
-        self.remedies
+        self.sizes.remedies
     }
 
     fn parts(&self) -> u32 {
-        self.parts
+        self.sizes.parts
     }
 
     fn offered(&self, visit: usize, condition: usize, remedy: usize) -> bool {
-        if !is_inside(self.conditions, self.remedies, visit, condition, remedy) {
-            return false;
-        }
-        self.lists(condition, remedy)
+        self.sizes.has(visit, condition, remedy) && self.lists(condition, remedy)
     }
 
     fn share(&self, visit: usize, condition: usize, remedy: usize, next: usize) -> u32 {
-        if is_inside(self.conditions, self.remedies, visit, condition, remedy)
-            && next < self.conditions
-        {
+        if self.sizes.has(visit, condition, remedy) && next < self.sizes.conditions {
             look_up(self.records, condition, remedy, next).share
         } else {
             0
@@ -140,9 +137,7 @@ impl<'a> Book for ListBook<'a> {
     }
 
     fn amount(&self, visit: usize, condition: usize, remedy: usize, next: usize) -> i64 {
-        if is_inside(self.conditions, self.remedies, visit, condition, remedy)
-            && next < self.conditions
-        {
+        if self.sizes.has(visit, condition, remedy) && next < self.sizes.conditions {
             look_up(self.records, condition, remedy, next).amount
         } else {
             0
@@ -150,32 +145,25 @@ impl<'a> Book for ListBook<'a> {
     }
 
     fn worth(&self, condition: usize) -> i64 {
-        if condition < self.conditions {
+        if condition < self.sizes.conditions {
             self.worths[condition]
         } else {
             0
         }
     }
 
-    fn row(&self, visit: usize, condition: usize, remedy: usize, row: &mut [Outcome; 32]) -> usize {
-        let inside = is_inside(self.conditions, self.remedies, visit, condition, remedy);
-        if !inside {
-            return 0;
+    fn row(&self, visit: usize, condition: usize, remedy: usize, row: &mut Row) {
+        row.clear();
+        if !self.sizes.has(visit, condition, remedy) {
+            return;
         }
-        let mut count: usize = 0;
-        for at in self.first_of(condition, remedy)..self.records.len() {
-            let found = self.records[at];
+        let first = self.first_of(condition, remedy);
+        for found in &self.records[first..] {
             if found.condition != condition || found.remedy != remedy {
                 break;
             }
-            row[count] = Outcome {
-                next: found.next,
-                share: found.share,
-                amount: found.amount,
-            };
-            count += 1;
+            row.push(found.outcome());
         }
-        count
     }
 
     fn alike_until(&self, visit: usize) -> usize {

@@ -1,73 +1,69 @@
 // Making a list book.
-ghost use Rattle.std.specs.Prelude.{[], ◌∷◌, length, pos, Decides};
-ghost use Rattle.books.specs.Entries.{RecordFits, Rising, AllPlaced, KeysRise, StartsBelow, StartsAbove};
+ghost use Rattle.std.specs.Prelude.{[], ◌∷◌, length, pos, ◌<◌, Decides};
+ghost use Rattle.books.specs.Entries.{RecordFits, Rising, AllPlaced, KeysRise, StartsWithin, StartsBelow, StartsAbove};
 ghost use Rattle.books.specs.Making.{FirstFailing, Entered, ListChecked};
-ghost use Rattle.books.specs.Made.{OfList, ListMade};
+ghost use Rattle.books.specs.Made.{OfList, ListNew, ListMade};
 
 use super::ListBook;
 use super::answers::before;
-use crate::limits::{first_large, is_small, sizes_fit};
+use crate::limits::{first_large, is_small};
 use crate::record::Record;
-use crate::refusal::MakingRefusal;
+use crate::refusal::{MakingRefusal, Table};
+use crate::sizes::Sizes;
 
 // Whether a record is within the sizes and its share and amount within the limits.
-fn record_fits(conditions: usize, remedies: usize, parts: u32, outcome: &Record) -> bool
-    ensures { Decides result (RecordFits conditions remedies parts outcome.now) }
+fn record_fits(sizes: Sizes, record: &Record) -> bool
+    ensures { Decides result (RecordFits sizes.conditions sizes.remedies sizes.parts record.now) }
 {
-    outcome.condition < conditions
-        && outcome.remedy < remedies
-        && outcome.next < conditions
-        && 1 <= outcome.share
-        && outcome.share <= parts
-        && is_small(outcome.amount)
+    record.condition < sizes.conditions
+        && record.remedy < sizes.remedies
+        && record.next < sizes.conditions
+        && 1 <= record.share
+        && record.share <= sizes.parts
+        && is_small(record.amount)
 }
 
 // Whether the second record stands after the first, by condition, remedy and next condition.
 fn rises(first: &Record, second: &Record) -> bool
     ensures { Decides result (Rising first.now second.now) }
 {
-    if first.condition != second.condition {
-        return first.condition < second.condition;
-    }
-    if first.remedy != second.remedy {
-        return first.remedy < second.remedy;
-    }
-    first.next < second.next
+    first.place() < second.place()
+}
+
+// Whether a record is within its limits and stands after the one before it.
+fn is_entered(sizes: Sizes, records: &[Record], index: usize) -> bool
+    requires { index < length records.now }
+    ensures { Decides result (Entered sizes.conditions sizes.remedies sizes.parts records.now index) }
+{
+    record_fits(sizes, &records[index])
+        && (index == 0 || rises(&records[index - 1], &records[index]))
 }
 
 // The first record that is outside its limits, or does not stand after the one before it.
-fn first_unfit(conditions: usize, remedies: usize, parts: u32, records: &[Record]) -> Option<usize>
-    ensures { FirstFailing (Entered conditions remedies parts records.now) (length records.now) result }
+fn first_unfit(sizes: Sizes, records: &[Record]) -> Option<usize>
+    ensures { FirstFailing (Entered sizes.conditions sizes.remedies sizes.parts records.now) (length records.now) result }
 {
-    for (index, record) in records.iter().enumerate() {
-        if !record_fits(conditions, remedies, parts, record) {
-            return Some(index);
-        }
-        if index > 0 && !rises(&records[index - 1], record) {
-            return Some(index);
-        }
-    }
-    None
+    (0..records.len()).position(|index| !is_entered(sizes, records, index))
 }
 
 // Whether records and worths make a book of these sizes, or the first reason why not.
-fn check(
-    conditions: usize,
-    remedies: usize,
-    parts: u32,
-    records: &[Record],
-    worths: &[i64],
-) -> Result<(), MakingRefusal>
-    ensures { ListChecked conditions remedies parts records.now worths.now result }
+fn check(sizes: Sizes, records: &[Record], worths: &[i64]) -> Result<(), MakingRefusal>
+    ensures { ListChecked sizes.conditions sizes.remedies sizes.parts records.now worths.now result }
 {
-    if !sizes_fit(conditions, remedies, parts) || worths.len() != conditions {
+    if worths.len() != sizes.conditions {
         return Err(MakingRefusal::Size);
     }
-    if let Some(index) = first_unfit(conditions, remedies, parts, records) {
-        return Err(MakingRefusal::Entry { table: 1, index });
+    if let Some(index) = first_unfit(sizes, records) {
+        return Err(MakingRefusal::Entry {
+            table: Table::Outcomes,
+            index,
+        });
     }
     if let Some(index) = first_large(worths) {
-        return Err(MakingRefusal::Entry { table: 3, index });
+        return Err(MakingRefusal::Entry {
+            table: Table::Worths,
+            index,
+        });
     }
     Ok(())
 }
@@ -76,6 +72,7 @@ fn check(
 fn starts_of(records: &[Record]) -> [usize; 256]
     requires placed { AllPlaced 32 8 records.now }
     requires rise { KeysRise records.now }
+    ensures within { StartsWithin 256 records.now result }
     ensures below { StartsBelow 256 records.now result }
     ensures above { StartsAbove 256 records.now result }
 {
@@ -92,13 +89,35 @@ impl<'a> ListBook<'a> {
         ensures { OfList 1 1 1 [] (pos 0 ∷ []) result }
     {
         ListBook {
-            conditions: 1,
-            remedies: 1,
-            parts: 1,
+            sizes: Sizes {
+                conditions: 1,
+                remedies: 1,
+                parts: 1,
+            },
             records: &[],
             worths: &[0],
             starts: [0; 256],
         }
+    }
+
+    // The book of the records and worths that are lent.
+    pub fn new(
+        conditions: usize,
+        remedies: usize,
+        parts: u32,
+        records: &'a [Record],
+        worths: &'a [i64],
+    ) -> Result<ListBook<'a>, MakingRefusal>
+        ensures { ListNew conditions remedies parts records.now worths.now result }
+    {
+        let sizes = Sizes::new(conditions, remedies, parts).ok_or(MakingRefusal::Size)?;
+        check(sizes, records, worths)?;
+        Ok(ListBook {
+            sizes,
+            records,
+            worths,
+            starts: starts_of(records),
+        })
     }
 
     // Makes it the book of the records and worths that are lent; declined, it is as it stood.
@@ -112,15 +131,7 @@ impl<'a> ListBook<'a> {
     ) -> Result<(), MakingRefusal>
         ensures { ListMade conditions remedies parts records.now worths.now self.old self.new result }
     {
-        check(conditions, remedies, parts, records, worths)?;
-        *self = ListBook {
-            conditions,
-            remedies,
-            parts,
-            records,
-            worths,
-            starts: starts_of(records),
-        };
+        *self = ListBook::new(conditions, remedies, parts, records, worths)?;
         Ok(())
     }
 }

@@ -2,16 +2,16 @@ use Rattle.std.proofs.Common.{◌≡◌, ℕ, ◌<◌, ◌≤◌, false, length,
 use Rattle.books.specs.declared.list.ListBook.{ListBook}
 use Rattle.books.specs.declared.record.Record.{Record}
 use Rattle.books.specs.Alike.{some_above}
-use Rattle.books.specs.Entries.{no_record, AllPlaced, key, place}
+use Rattle.books.specs.Entries.{no_record, AllPlaced, key, rank}
 use Rattle.books.specs.Listed.{listed}
 use Rattle.books.proofs.Lookups.{listed_hit, row_miss, above_at, above_none}
 use Rattle.books.proofs.list.ListBook.lists.Goals as goal
 
 -- no record of the row, where the first one that does not stand before it is of another
-unlisted : (b : ListBook) (s x m w : ℕ) → w ≡ place s x 0 → ((i : ℕ) → i < m → key (get_or b.records.now i no_record) < w) → ((i : ℕ) → m ≤ i → i < length b.records.now → w ≤ key (get_or b.records.now i no_record)) → (m < length b.records.now → ((get_or b.records.now m no_record).condition ≡ s) × ((get_or b.records.now m no_record).remedy ≡ x) → ⊥) → false ≡ some_above (λ j. (listed b.records.now s x j).share) b.conditions
+unlisted : (b : ListBook) (s x m w : ℕ) → w ≡ rank s x 0 → ((i : ℕ) → i < m → key (get_or b.records.now i no_record) < w) → ((i : ℕ) → m ≤ i → i < length b.records.now → w ≤ key (get_or b.records.now i no_record)) → (m < length b.records.now → ((get_or b.records.now m no_record).condition ≡ s) × ((get_or b.records.now m no_record).remedy ≡ x) → ⊥) → false ≡ some_above (λ j. (listed b.records.now s x j).share) b.sizes.conditions
 unlisted b s x m w e below above away =
     let placed : AllPlaced 32 8 b.records.now = λ i l. let p = b.records_placed i l in (omega arith, omega arith, omega arith) in
-    sym (above_none _ b.conditions (λ j l. ap (λ (f : Record). f.share) (row_miss b.records.now m w b.records_rise below above s x j e placed away)))
+    sym (above_none _ b.sizes.conditions (λ j l. ap (λ (f : Record). f.share) (row_miss b.records.now m w b.records_rise below above s x j e placed away)))
 
 pub returns-then-found-remedy : goal.returns-then-found-remedy
 returns-then-found-remedy c =
@@ -23,7 +23,7 @@ returns-then-found-remedy c =
     let p = b.records_placed at l in
     let v = b.records_valued at l in
     let P : Record → Type 0 = λ f. 0 < f.share in
-    sym (above_at _ b.conditions found.next p.2 (subst P (sym same) v.0))
+    sym (above_at _ b.sizes.conditions found.next p.2 (subst P (sym same) v.0))
 
 pub returns-else-found-condition : goal.returns-else-found-condition
 returns-else-found-condition c =

@@ -1,18 +1,31 @@
-use Rattle.std.proofs.Common.{◌≡◌, ℕ, ◌-◌, get_or, subst, arith, below_more}
-use Rattle.books.specs.Entries.{RecordFits, Rising, no_record}
+use Rattle.std.proofs.Common.{◌≡◌, ℕ, ◌<◌, length, get_or, Some, None, Option, refl, subst, arith, rules}
+use Rattle.std.specs.Prelude.{MatchOption}
+use Rattle.std.specs.List.{AllWithin, HoldsAt, range_with_len}
+use borrow.Author.Tests.{tests}
+use Rattle.std.proofs.lemmas.Iterator.{IsFirst-from_position, YieldsList-from_range}
+use Rattle.std.proofs.lemmas.List.FromFn.{length-range_with_len, get_or-range_with_len}
+use Rattle.books.specs.Making.{FirstFailing, Entered}
 use Rattle.books.proofs.list.making.first_unfit.Goals as goal
-use Rattle.books.proofs.list.making.first_unfit.Goals.{else-index-gt0-via-then-index-gt0+else-not-rises, else-index-gt0-via-else-index-gt0}
 
-pub loop-index-preserved : goal.loop-index-preserved
-loop-index-preserved c =
-    let at = c.loop-index.index in
-    let es = c.args.records.now in
-    let fits : RecordFits c.args.conditions c.args.remedies c.args.parts (get_or es at no_record) = c.record_fits.ensures.0 c.if-not-record_fits.false in
-    let Rises : ℕ → Type 0 = λ k. Rising (get_or es k no_record) (get_or es at no_record) in
-    below_more _ _ c.loop-index.invariant (
-      fits,
-      λ k e. elim c.else-index-gt0.branch [
-        | else-index-gt0-via-then-index-gt0+else-not-rises w ↦ let same : at - 1 ≡ k = omega arith in subst Rises same (w.rises.ensures.0 w.if-not-rises.false)
-        | else-index-gt0-via-else-index-gt0 w ↦ absurd (omega (arith, w.if-index-gt0.false))
-      ],
+-- what `position` says of the numbers below n
+first_failing : (P : ℕ → Type 0) (n : ℕ) (r : Option ℕ) → MatchOption r (AllWithin P (range_with_len 0 n) 0 (length (range_with_len 0 n))) (λ i. (i < length (range_with_len 0 n)) × HoldsAt (λ k. P k → ⊥) (range_with_len 0 n) i × AllWithin P (range_with_len 0 n) 0 i) → FirstFailing P n r
+first_failing P n None h = λ i l.
+    let long = length-range_with_len 0 n in
+    let same : get_or (range_with_len 0 n) i 0 ≡ i = omega (arith, get_or-range_with_len 0 n i 0 l) in
+    subst P same (h i 0 (omega arith) (omega arith))
+first_failing P n (Some i) (l, fails, all) =
+    let inside : i < n = omega (arith, length-range_with_len 0 n) in
+    let same : get_or (range_with_len 0 n) i 0 ≡ i = omega (arith, get_or-range_with_len 0 n i 0 inside) in (
+      inside,
+      subst (λ k. P k → ⊥) same (fails 0),
+      λ k m.
+          let below : k < n = omega arith in
+          let same : get_or (range_with_len 0 n) k 0 ≡ k = omega (arith, get_or-range_with_len 0 n k 0 below) in
+          subst P same (all k 0 (omega arith) m),
     )
+
+pub returns : goal.returns
+returns c =
+    let P : ℕ → Type 0 = Entered c.args.sizes.conditions c.args.sizes.remedies c.args.sizes.parts c.args.records.now in
+    let n = length c.args.records.now in
+    first_failing P n _ (IsFirst-from_position _ _ c.position.result (λ i. P i → ⊥) P c.position.ensures.ran (YieldsList-from_range 0 n n refl (omega arith)) (λ x q k. search (rules, tests)) (λ x q k. search (rules, tests)))

@@ -1,48 +1,53 @@
-use Rattle.std.proofs.Common.{◌≡◌, ◌+◌, ◌<◌, length, get_or, sym, refl, ◌∙◌, ⊎_elim, arith, length-set, w64, SFits, rules}
-use Rattle.std.proofs.lemmas.Int.{to_z-of_z}
-use Rattle.books.specs.Entries.{no_record}
-use Rattle.books.proofs.Rows.{outside, finished, later, written, below_more, above_more}
+use Rattle.std.proofs.Common.{◌≡◌, ◌+◌, ◌<◌, length, get_or, sym, ap, ◌∙◌, arith, length-drop}
+use Rattle.model.specs.declared.row.Outcome.{Outcome}
+use Rattle.books.specs.declared.record.Record.{Record}
+use Rattle.books.specs.Entries.{no_record, outcome_of}
+use Rattle.books.proofs.Rows.{from_first, outside, finished, later, written, below_more, above_more}
 use Rattle.books.proofs.list.answers.ListBookBook.row.Goals as goal
+use Rattle.books.proofs.list.answers.ListBookBook.row.Goals.{then-found-condition-via-then-found-condition, then-found-condition-via-else-found-condition+then-found-remedy}
 
-pub returns-then-not-inside : goal.returns-then-not-inside
-returns-then-not-inside c = (omega arith, outside c.args.self.now c.args.visit c.args.condition c.args.remedy (sym c.if-not-inside.ensures))
+pub returns-then-not-has : goal.returns-then-not-has
+returns-then-not-has c = c.clear.ensures ∙ outside c.args.self.now c.args.visit c.args.condition c.args.remedy (sym c.if-not-has.ensures)
 
-pub loop-at-init : goal.loop-at-init
-loop-at-init c = (0, omega arith, omega arith, c.told-row, refl, c.first_of-at.ensures.below, c.first_of-at.ensures.above)
+pub loop-found-init : goal.loop-found-init
+loop-found-init c =
+    let e = c.first_of-first.ensures in
+    (0, omega arith, omega (arith, ap (length {A = Outcome}) c.clear.ensures), c.clear.ensures, λ i l. e.below i (omega arith), λ i l. e.above i (omega arith))
 
-pub loop-at-preserved : goal.loop-at-preserved
-loop-at-preserved c =
+pub loop-found-preserved : goal.loop-found-preserved
+loop-found-preserved c =
     let book = c.args.self.now in
-    let (j, few, count, long, so, below, above) = c.loop-at.invariant in
-    let at = c.loop-at.at in
+    let (j, few, count, so, below, above) = c.loop-found.invariant in
+    let at = c.first_of-first.result + c.loop-found.found-index in
     let next = (get_or book.records.now at no_record).next in
-    let some = sym c.if-not-inside.ensures in
-    let l : at < length book.records.now = omega arith in
-    let fits : SFits w64 (get_or book.records.now at no_record).amount = search rules in
-    let a : (get_or book.records.now at no_record).condition ≡ c.args.condition = omega arith in
-    let b : (get_or book.records.now at no_record).remedy ≡ c.args.remedy = omega arith in
+    let some = sym c.if-not-has.ensures in
+    let l : at < length book.records.now = omega (arith, length-drop {A = Record}) in
+    let same = from_first book.records.now c.first_of-first.result c.loop-found.found-index (omega (arith, length-drop {A = Record})) in
+    let a : (get_or book.records.now at no_record).condition ≡ c.args.condition = ap (λ (e : Record). e.condition) (sym same) ∙ omega arith in
+    let b : (get_or book.records.now at no_record).remedy ≡ c.args.remedy = ap (λ (e : Record). e.remedy) (sym same) ∙ omega arith in
     let p = book.records_placed at l in
     let later = later book c.args.visit c.args.condition c.args.remedy some at j below above l a b in
-    let n = book.few_conditions in (
+    let n = book.sizes.fit.few_conditions in (
       next + 1,
       omega arith,
-      omega arith,
-      length-set c.loop-at.row c.loop-at.count _ ∙ long,
-      written book c.args.visit c.args.condition c.args.remedy some at j below above l a b c.loop-at.row c.loop-at.count _ (omega arith) (to_z-of_z w64 _ fits) so,
-      below_more book c.args.visit c.args.condition c.args.remedy some at j below above l a b,
-      above_more book c.args.visit c.args.condition c.args.remedy some at j below above l a b,
+      omega (arith, later, c.push.ensures.len),
+      c.push.ensures.items ∙ written book c.args.visit c.args.condition c.args.remedy some at j below above l a b c.loop-found.row.items _ (c.outcome.ensures ∙ ap outcome_of same) so,
+      λ i m. below_more book c.args.visit c.args.condition c.args.remedy some at j below above l a b i (omega arith),
+      λ i m. above_more book c.args.visit c.args.condition c.args.remedy some at j below above l a b i (omega arith),
     )
 
-pub returns-after-loop-at : goal.returns-after-loop-at
-returns-after-loop-at c =
+pub returns-after-loop-found : goal.returns-after-loop-found
+returns-after-loop-found c =
     let book = c.args.self.now in
-    let (j, few, count, long, so, below, above) = c.loop-at.invariant in
-    let n = book.few_conditions in
-    (omega arith, so ∙ finished book c.args.visit c.args.condition c.args.remedy (sym c.if-not-inside.ensures) c.loop-at.at j below above few (λ l p. omega arith))
+    let (j, few, count, so, below, above) = c.loop-found.invariant in
+    so ∙ finished book c.args.visit c.args.condition c.args.remedy (sym c.if-not-has.ensures) _ j below above few (λ l p. absurd (omega arith))
 
 pub returns-then-found-condition : goal.returns-then-found-condition
 returns-then-found-condition c =
     let book = c.args.self.now in
-    let (j, few, count, long, so, below, above) = c.loop-at.invariant in
-    let n = book.few_conditions in
-    (omega arith, so ∙ finished book c.args.visit c.args.condition c.args.remedy (sym c.if-not-inside.ensures) c.loop-at.at j below above few (λ l p. ⊎_elim (λ n. omega arith) (λ n. omega arith) c.then-found-condition.either))
+    let (j, few, count, so, below, above) = c.loop-found.invariant in
+    so ∙ finished book c.args.visit c.args.condition c.args.remedy (sym c.if-not-has.ensures) _ j below above few (λ l p.
+    let same = from_first book.records.now c.first_of-first.result c.loop-found.found-index (omega arith) in
+    let a = ap (λ (e : Record). e.condition) same in
+    let b = ap (λ (e : Record). e.remedy) same in
+    elim c.then-found-condition.branch [ then-found-condition-via-then-found-condition w ↦ omega (arith, w.if-found-condition.true) | then-found-condition-via-else-found-condition+then-found-remedy w ↦ omega (arith, w.if-found-remedy.true) ])
