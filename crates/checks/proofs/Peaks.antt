@@ -1,6 +1,10 @@
 -- The greatest size in a book is a bound that is reached, and decides the number limit.
-use Rattle.std.proofs.Common.{◌≡◌, ℕ, zero, suc, ◌+◌, ◌-◌, ◌*◌, ◌^◌, ◌<◌, ◌≤◌, max, Bool, true, false, cond, T, ltb, nat_abs, MatchBool, sym, refl, ap, ◌∙◌, subst, inl, inr, ⊎_elim, le_trans, mul-le-mul_left, add-one, arith}
+use Rattle.std.proofs.Common.{◌≡◌, ℕ, zero, suc, ◌+◌, ◌-◌, ◌*◌, ◌^◌, ◌<◌, ◌≤◌, max, Bool, true, false, cond, T, ltb, nat_abs, fold, map, MatchBool, sym, refl, ap, ◌∙◌, subst, inl, inr, ⊎_elim, le_trans, mul-le-mul_left, add-one, arith}
+use Rattle.std.specs.List.{range_with_len}
 use Rattle.std.proofs.lemmas.Bool.{cases_lt, ltb-true, lt-ltb}
+use Rattle.std.proofs.lemmas.List.FromFn.{map-range_with_len_more}
+use Rattle.std.proofs.lemmas.List.Folds.{fold-map}
+use Rattle.std.proofs.lemmas.List.Sums.{fold_push}
 use Rattle.model.specs.Model.{Model, Lawful}
 use Rattle.model.specs.Visits.{visit_after, Bounds, WithinLimit, Fits}
 use Rattle.checks.specs.Limit.{AmountOfSize, Reached, Peak, most, largest_worth, largest_under, largest_in, largest_at, greatest, HasAPeak, FitsByThePeak}
@@ -28,6 +32,14 @@ fits_when m H P parts false top e high = λ fits. high (subst (λ (x : ℕ). Wit
 -- one more
 pub most_more : (n : ℕ) (f : ℕ → ℕ) (top x : ℕ) → top ≡ most n f → x ≡ f n → max top x ≡ most (n + 1) f
 most_more n f top x e here = ap (λ y. max y x) e ∙ ap (max (most n f)) here ∙ ap (λ k. most k f) (sym (add-one n))
+
+-- the greatest of a chain over the numbers below n
+pub fold_is_most : (f : ℕ → ℕ) (n : ℕ) → fold (λ a x. max a (f x)) 0 (range_with_len 0 n) ≡ most n f
+fold_is_most f n = sym (fold-map max f 0 (range_with_len 0 n)) ∙ go n
+  where
+    go : (n : ℕ) → fold max 0 (map f (range_with_len 0 n)) ≡ most n f
+    go zero = refl
+    go (suc n) = ap (λ k. fold max 0 (map f (range_with_len 0 k))) (sym (add-one n)) ∙ ap (fold max 0) (map-range_with_len_more f 0 n n (omega arith)) ∙ fold_push max 0 (map f (range_with_len 0 n)) (f n) ∙ ap (λ x. max x (f n)) (go n)
 
 most_high : (n : ℕ) (f : ℕ → ℕ) (j : ℕ) → j < n → f j ≤ most n f
 most_high zero f j l = absurd (omega arith)
