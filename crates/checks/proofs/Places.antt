@@ -3,9 +3,9 @@ use Rattle.std.proofs.Common.{◌≡◌, ℕ, ◌+◌, ◌*◌, ◌-◌, ◌<◌
 use Rattle.std.specs.List.{range_with_len, HoldsAt, AllWithin}
 use Rattle.std.proofs.lemmas.Bool.{cases_lt}
 use Rattle.std.proofs.lemmas.List.FromFn.{length-range_with_len, get_or-range_with_len}
-use Rattle.model.specs.Model.{Offers}
-use Rattle.model.specs.Visits.{visit_after, Place, Before, SomeOffered, Unoffered}
-use Rattle.checks.specs.Places.{named}
+use Rattle.model.specs.Model.{Model, Offers, Lawful}
+use Rattle.model.specs.Visits.{visit_after, Place, Before, SomeOffered, Unoffered, Uneven}
+use Rattle.checks.specs.Places.{named, EvenUnder, FirstOf, FirstUnevenIn}
 
 -- P holds of every place at the first visits
 abbrev pub Clear : Offers → ℕ → (ℕ → ℕ → Type 0) → ℕ → Type 0
@@ -42,6 +42,11 @@ pub found_below : (found : Option ℕ) (k n : ℕ) (Yes No : ℕ → Type 0) →
     MatchOption found ((j : ℕ) → j < n → No j) (λ i. (i < n) × Yes i × ((j : ℕ) → j < i → No j))
 found_below None k n Yes No e h = λ j l. h j (omega arith) (omega arith)
 found_below (Some i) k n Yes No e h = (omega (arith, h.1), h.2, λ j l. h.3 j (omega arith) l)
+
+-- the first remedy that is uneven is the lowest of all, for none is offered beyond the last
+pub lowest_uneven : (m : Model) (n s : ℕ) (found : Option ℕ) → Lawful m → FirstOf (λ r. r) m.remedies (EvenUnder m n s) (Uneven m n s) found → FirstUnevenIn m n s found
+lowest_uneven m n s None lawful h = λ r t. h r (lawful.offered_inside n s r t).some_remedy t
+lowest_uneven m n s (Some r) lawful h = (h.1, λ k l u. u.1 (h.2 k l u.0))
 
 -- what `any` says over a range from 0, of the remedies that are offered
 pub offered_below : (o : Offers) (n s k : ℕ) (r : Bool) → k ≡ o.remedies → ((i : ℕ) → T (o.offered n s i) → i < o.remedies) →

@@ -30,9 +30,12 @@ pub record FirstMisnamed (o : Offers) (rs : List ℕ) (H n s r : ℕ) : Type 0 w
   pub not_offered : T (o.offered n s r) → ⊥
   pub first : (n' s' : ℕ) → Place o H n' s' → Before n' s' n s → T (o.offered n' s' (named o rs n' s'))
 
--- every offered remedy of a place is even
+-- a remedy is even at a place, if it is offered there
+abbrev pub EvenUnder : Model → (n s r : ℕ) → Type 0
+EvenUnder m n s r = T (m.offered n s r) → weight m n s r m.conditions ≡ m.parts
+
 abbrev pub EvenIn : Model → (n s : ℕ) → Type 0
-EvenIn m n s = (r : ℕ) → T (m.offered n s r) → weight m n s r m.conditions ≡ m.parts
+EvenIn m n s = (r : ℕ) → EvenUnder m n s r
 
 -- what a search of n places in order finds: P holds of all, or of all before the one that is found, of which Q holds
 abbrev pub FirstOf : {X : Type 0} → (X → ℕ) → ℕ → (ℕ → Type 0) → (X → Type 0) → Option X → Type 0

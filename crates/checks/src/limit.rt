@@ -1,6 +1,6 @@
 ghost use Rattle.std.specs.Prelude.{◌≡◌, ◌≤◌, MatchBool};
 ghost use Rattle.model.specs.Visits.{WithinLimit, Fits};
-ghost use Rattle.checks.specs.Limit.{Peak, largest_worth, largest_in, largest_at, greatest_size};
+ghost use Rattle.checks.specs.Limit.{Peak, largest_worth, largest_under, largest_in, largest_at, greatest_size};
 
 use super::asked::AskedVisits;
 use model::Book;
@@ -27,29 +27,39 @@ fn greatest_amount(outcomes: &[Outcome]) -> u64
         .unwrap_or(0)
 }
 
-// The largest size of an amount of share above 0 under a remedy that is offered there; `row` is room for its outcomes.
+// The largest size of an amount of share above 0 under a remedy; `row` is room for its outcomes.
+fn greatest_under<B: Book>(
+    book: &B,
+    visit: usize,
+    condition: usize,
+    remedy: usize,
+    row: &mut Row,
+) -> u64
+    ensures { result ≡ largest_under (B.model book.now) visit condition remedy }
+{
+    book.row(visit, condition, remedy, row);
+    greatest_amount(row.as_slice())
+}
+
+// The largest under a remedy that is offered there.
 fn greatest_in<B: Book>(book: &B, visit: usize, condition: usize, row: &mut Row) -> u64
     ensures { result ≡ largest_in (B.model book.now) visit condition }
 {
-    let mut top: u64 = 0;
-    for remedy in 0..book.remedies() {
-        if book.offered(visit, condition, remedy) {
-            book.row(visit, condition, remedy, row);
-            top = top.max(greatest_amount(row.as_slice()));
-        }
-    }
-    top
+    (0..book.remedies())
+        .filter(|remedy| book.offered(visit, condition, *remedy))
+        .map(|remedy| greatest_under(book, visit, condition, remedy, row))
+        .max()
+        .unwrap_or(0)
 }
 
 // The largest at a visit, in any condition.
 fn greatest_at<B: Book>(book: &B, visit: usize, row: &mut Row) -> u64
     ensures { result ≡ largest_at (B.model book.now) visit }
 {
-    let mut top: u64 = 0;
-    for condition in 0..book.conditions() {
-        top = top.max(greatest_in(book, visit, condition, row));
-    }
-    top
+    (0..book.conditions())
+        .map(|condition| greatest_in(book, visit, condition, row))
+        .max()
+        .unwrap_or(0)
 }
 
 // The largest of 1, every worth, and every amount that may come at the visits, by size.

@@ -1,7 +1,7 @@
 ghost use Rattle.std.specs.Prelude.{◌≡◌, ◌*◌, ◌^◌, ◌<◌, ◌≤◌, length, sum_by, MatchBool, MatchOption};
 ghost use Rattle.model.specs.Model.{offers};
-ghost use Rattle.model.specs.Visits.{SomeOffered, Unoffered, Open, Even};
-ghost use Rattle.checks.specs.Places.{FirstStuck, FirstUneven, FirstMisnamed, WellNamed, FirstBare, FirstUnevenIn, FirstUnevenAt, FirstMisnamedAt};
+ghost use Rattle.model.specs.Visits.{SomeOffered, Unoffered, Open, Uneven, Even};
+ghost use Rattle.checks.specs.Places.{FirstStuck, FirstUneven, FirstMisnamed, WellNamed, EvenUnder, FirstBare, FirstUnevenIn, FirstUnevenAt, FirstMisnamedAt};
 
 use super::asked::AskedVisits;
 use super::visit::visit_of;
@@ -41,19 +41,28 @@ fn total_share(outcomes: &[Outcome]) -> u32
     outcomes.iter().map(|outcome| outcome.share).sum()
 }
 
-// The first remedy that is offered there whose shares do not add to the parts; `row` is room for its outcomes.
+// Whether a remedy is offered there whose shares do not add to the parts; `row` is room for its outcomes.
+fn is_uneven<B: Book>(
+    book: &B,
+    visit: usize,
+    condition: usize,
+    remedy: usize,
+    row: &mut Row,
+) -> bool
+    ensures { MatchBool result (Uneven (B.model book.now) visit condition remedy) (EvenUnder (B.model book.now) visit condition remedy) }
+{
+    if !book.offered(visit, condition, remedy) {
+        return false;
+    }
+    book.row(visit, condition, remedy, row);
+    total_share(row.as_slice()) != book.parts()
+}
+
+// The first such remedy in the condition.
 fn uneven_remedy<B: Book>(book: &B, visit: usize, condition: usize, row: &mut Row) -> Option<usize>
     ensures { FirstUnevenIn (B.model book.now) visit condition result }
 {
-    for remedy in 0..book.remedies() {
-        if book.offered(visit, condition, remedy) {
-            book.row(visit, condition, remedy, row);
-            if total_share(row.as_slice()) != book.parts() {
-                return Some(remedy);
-            }
-        }
-    }
-    None
+    (0..book.remedies()).find(|remedy| is_uneven(book, visit, condition, *remedy, row))
 }
 
 // The first such remedy at the visit, with its condition.
