@@ -1,28 +1,24 @@
 -- Visits that are alike have the same offers, weights and sizes.
-use Rattle.std.proofs.Common.{◌≡◌, ℕ, zero, suc, ◌+◌, ◌<◌, ◌≤◌, min, max, cond, T, ltb, nat_abs, sym, refl, ap, ◌∙◌, subst, inl, inr, ⊎_elim, arith}
+use Rattle.std.proofs.Common.{◌≡◌, ℕ, zero, suc, ◌+◌, ◌<◌, ◌≤◌, min, max, cond, T, ltb, nat_abs, sym, refl, ap, ◌∙◌, subst, ⊎_elim, arith}
 use Rattle.std.proofs.lemmas.Bool.{cases_lt}
-use Rattle.model.specs.Model.{Model, Offers, offers, weight}
+use Rattle.model.specs.Model.{Model, offers, weight}
 use Rattle.model.specs.Visits.{visit_after, SomeOffered}
 use Rattle.model.specs.Rows.{Alike}
 use Rattle.checks.specs.Limit.{most, largest_worth, largest_under, largest_in, largest_at, greatest}
-use Rattle.checks.proofs.Places.{Clear, EvenIn}
+use Rattle.checks.specs.Places.{EvenIn}
+use Rattle.checks.specs.Asked.{Asked}
+use Rattle.checks.proofs.Places.{Clear}
 
--- every visit from n to the last is as n
-abbrev pub AlikeUntil : Model → (n last : ℕ) → Type 0
-AlikeUntil m n last = (k : ℕ) → n ≤ k → k ≤ last → Alike m n k
+-- the same walk, by equal books and ends
+pub asked_at : (m m' : Model) (H H' past n last : ℕ) → m' ≡ m → H' ≡ H → Asked m' H' past n last → Asked m H past n last
+asked_at m m' H H' past n last e f asked = subst (λ h. Asked m h past n last) f (subst (λ x. Asked x H' past n last) e asked)
 
--- the row is done, and with it the rows that are alike
-pub clear_alike : (o : Offers) (H : ℕ) (P : ℕ → ℕ → Type 0) (n last s : ℕ) → 1 ≤ n → ((k j : ℕ) → n ≤ k → k ≤ last → P n j → P k j) → o.conditions ≤ s → Clear o H P n s → Clear o H P (visit_after last) 0
-clear_alike o H P n last s some same all before k j place b = ⊎_elim
-    (λ l. ⊎_elim
-    (λ i. before k j place (inl i))
-    (λ i. same k j i (omega arith) (before n j (record { from = some; to = omega (arith, place.to); condition = place.condition }) (inr (refl, omega (arith, place.condition)))))
-    (cases_lt k n))
-    (λ e. absurd (never e.1))
-    b
-  where
-    never : j < 0 → ⊥
-    never l = omega arith
+-- the visit is done, and with it those that are alike
+pub clear_alike : (m : Model) (H : ℕ) (P : ℕ → ℕ → Type 0) (past n last : ℕ) → Asked m H past n last → ((k s : ℕ) → Alike m n k → P n s → P k s) → ((s : ℕ) → s < m.conditions → P n s) → Clear (offers m) H P past → Clear (offers m) H P last
+clear_alike m H P past n last asked same here clear k s place l = ⊎_elim
+    (λ a. clear k s place (omega (arith, asked.next)))
+    (λ a. same k s (asked.alike k a l) (here s place.condition))
+    (cases_lt k n)
 
 most_same : (n : ℕ) (f g : ℕ → ℕ) → ((j : ℕ) → f j ≡ g j) → most n f ≡ most n g
 most_same zero f g each = refl
@@ -57,18 +53,18 @@ module _ (m : Model) (n k : ℕ) (a : Alike m n k) where
   at_alike = most_same m.conditions _ _ in_alike
 
 -- the greatest up to the last of visits that are alike, or to the last visit
-pub greatest_alike : (m : Model) (H row n last top x : ℕ) → row < H → n ≡ visit_after row → n ≤ last → AlikeUntil m n last → top ≡ greatest m (min row H) → x ≡ largest_at m n → max top x ≡ greatest m (min last H)
-greatest_alike m H row n last top x low v up alike e here =
-    let f : ℕ → ℕ = λ past. largest_at m (visit_after past) in
-    let first : largest_at m n ≡ f row = ap (largest_at m) v in
-    let whole : min row H ≡ row = omega arith in
+pub greatest_alike : (m : Model) (H past n last top x : ℕ) → Asked m H past n last → top ≡ greatest m (min past H) → x ≡ largest_at m n → max top x ≡ greatest m (min last H)
+greatest_alike m H past n last top x asked e here =
+    let f : ℕ → ℕ = λ k. largest_at m (visit_after k) in
+    let first : largest_at m n ≡ f past = ap (largest_at m) asked.next in
+    let whole : min past H ≡ past = omega (arith, asked.some) in
     let q : ℕ = min last H in
-    let within : row < q = omega arith in
-    let each : (k : ℕ) → row ≤ k → k < q → f k ≡ f row = λ k a b. sym (at_alike m n (visit_after k) (alike (visit_after k) (omega arith) (omega arith))) ∙ first in
-    let so : most q f ≡ max (most row f) (f row) = most_alike f row q within each in
-    let top_is : top ≡ max (max (largest_worth m) 1) (most row f) = e ∙ ap (greatest m) whole in
-    let x_is : x ≡ f row = here ∙ first in
-    joined (max (largest_worth m) 1) (most row f) (f row) (most q f) top x top_is x_is so
+    let within : past < q = omega (arith, asked.some, asked.next, asked.on) in
+    let each : (k : ℕ) → past ≤ k → k < q → f k ≡ f past = λ k a b. sym (at_alike m n (visit_after k) (asked.alike (visit_after k) (omega (arith, asked.next)) (omega arith))) ∙ first in
+    let so : most q f ≡ max (most past f) (f past) = most_alike f past q within each in
+    let top_is : top ≡ max (max (largest_worth m) 1) (most past f) = e ∙ ap (greatest m) whole in
+    let x_is : x ≡ f past = here ∙ first in
+    joined (max (largest_worth m) 1) (most past f) (f past) (most q f) top x top_is x_is so
   where
     joined : (a b c d top x : ℕ) → top ≡ max a b → x ≡ c → d ≡ max b c → max top x ≡ max a d
     joined a b c d top x h i j = omega arith

@@ -1,4 +1,5 @@
 pub mod Places
+pub mod Kept
 pub mod Peaks
 pub mod Products
 pub mod Rows

@@ -1,6 +1,10 @@
 -- The greatest size in a book is a bound that is reached, and decides the number limit.
-use Rattle.std.proofs.Common.{◌≡◌, ℕ, zero, suc, ◌+◌, ◌-◌, ◌*◌, ◌^◌, ◌<◌, ◌≤◌, max, Bool, true, false, cond, T, ltb, nat_abs, MatchBool, sym, refl, ap, ◌∙◌, subst, inl, inr, ⊎_elim, le_trans, mul-le-mul_left, add-one, arith}
+use Rattle.std.proofs.Common.{◌≡◌, ℕ, zero, suc, ◌+◌, ◌-◌, ◌*◌, ◌^◌, ◌<◌, ◌≤◌, max, Bool, true, false, cond, T, ltb, nat_abs, [], ◌∷◌, ◌++◌, fold, filter, append-nil, map-id, MatchBool, sym, refl, ap, ◌∙◌, subst, inl, inr, ⊎_elim, le_trans, mul-le-mul_left, add-one, arith}
+use Rattle.std.specs.List.{range_with_len}
 use Rattle.std.proofs.lemmas.Bool.{cases_lt, ltb-true, lt-ltb}
+use Rattle.std.proofs.lemmas.List.FromFn.{map-range_with_len_more}
+use Rattle.std.proofs.lemmas.List.Elements.{filter-append}
+use Rattle.std.proofs.lemmas.List.Sums.{fold_push}
 use Rattle.model.specs.Model.{Model, Lawful}
 use Rattle.model.specs.Visits.{visit_after, Bounds, WithinLimit, Fits}
 use Rattle.checks.specs.Limit.{AmountOfSize, Reached, Peak, most, largest_worth, largest_under, largest_in, largest_at, greatest, HasAPeak, FitsByThePeak}
@@ -25,9 +29,23 @@ pub fits_when : (m : Model) (H P parts : ℕ) (r : Bool) → Peak m H P → part
 fits_when m H P parts true top e low = (fits_by_the_peak m H P top).1 (subst (λ (x : ℕ). WithinLimit x H P) e low)
 fits_when m H P parts false top e high = λ fits. high (subst (λ (x : ℕ). WithinLimit x H P) (sym e) ((fits_by_the_peak m H P top).0 fits))
 
--- one more
-pub most_more : (n : ℕ) (f : ℕ → ℕ) (top x : ℕ) → top ≡ most n f → x ≡ f n → max top x ≡ most (n + 1) f
-most_more n f top x e here = ap (λ y. max y x) e ∙ ap (max (most n f)) here ∙ ap (λ k. most k f) (sym (add-one n))
+one_longer : (n : ℕ) → range_with_len 0 (suc n) ≡ range_with_len 0 n ++ (n ∷ [])
+one_longer n = ap (range_with_len 0) (sym (add-one n)) ∙ sym (map-id _) ∙ map-range_with_len_more (λ x. x) 0 n n (omega arith) ∙ ap (λ xs. xs ++ (n ∷ [])) (map-id _)
+
+-- the largest of a chain over the numbers below n, or over those of them that pass a test
+pub fold_is_most : (h : ℕ → ℕ) (n : ℕ) → fold (λ a x. max a (h x)) 0 (range_with_len 0 n) ≡ most n h
+fold_is_most h zero = refl
+fold_is_most h (suc n) = ap (fold (λ a x. max a (h x)) 0) (one_longer n) ∙ fold_push (λ a x. max a (h x)) 0 (range_with_len 0 n) n ∙ ap (λ x. max x (h n)) (fold_is_most h n)
+
+pub filtered_is_most : (test : ℕ → Bool) (h : ℕ → ℕ) (n : ℕ) → fold (λ a x. max a (h x)) 0 (filter test (range_with_len 0 n)) ≡ most n (λ x. cond (test x) (h x) 0)
+filtered_is_most test h zero = refl
+filtered_is_most test h (suc n) = ap (λ xs. fold (λ a x. max a (h x)) 0 (filter test xs)) (one_longer n) ∙ ap (fold (λ a x. max a (h x)) 0) (filter-append test (range_with_len 0 n) (n ∷ [])) ∙ last (test n) (filtered_is_most test h n)
+  where
+    last : (b : Bool) → fold (λ a x. max a (h x)) 0 (filter test (range_with_len 0 n)) ≡ most n (λ x. cond (test x) (h x) 0) → fold (λ a x. max a (h x)) 0 (filter test (range_with_len 0 n) ++ cond b (n ∷ []) []) ≡ max (most n (λ x. cond (test x) (h x) 0)) (cond b (h n) 0)
+    last true so = fold_push (λ a x. max a (h x)) 0 (filter test (range_with_len 0 n)) n ∙ ap (λ x. max x (h n)) so
+    last false so =
+        let none : most n (λ x. cond (test x) (h x) 0) ≡ max (most n (λ x. cond (test x) (h x) 0)) 0 = omega arith in
+        ap (fold (λ a x. max a (h x)) 0) (append-nil (filter test (range_with_len 0 n))) ∙ so ∙ none
 
 most_high : (n : ℕ) (f : ℕ → ℕ) (j : ℕ) → j < n → f j ≤ most n f
 most_high zero f j l = absurd (omega arith)

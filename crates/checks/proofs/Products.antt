@@ -1,6 +1,5 @@
 -- A product that is held within 128 bits, one factor more.
-use Rattle.std.proofs.Common.{◌≡◌, ℕ, ◌+◌, ◌-◌, ◌*◌, ◌^◌, ◌<◌, ◌≤◌, min, sym, ap, ◌∙◌, ⊎_elim, mul_assoc, mul_comm, mul-le-mul, mul-le-mul_left, one-mul, pow-suc, mul-zero, mul-one, add-one, arith}
-use native.Mathlib.Nat.{pow-zero}
+use Rattle.std.proofs.Common.{◌≡◌, ℕ, ◌+◌, ◌-◌, ◌*◌, ◌^◌, ◌<◌, ◌≤◌, min, sym, ap, ◌∙◌, ⊎_elim, mul-le-mul_left, mul-zero, mul-one, arith}
 use Rattle.std.proofs.lemmas.Bool.{cases_lt}
 
 -- holding before one more factor changes nothing
@@ -23,22 +22,8 @@ held_times a b = ⊎_elim some none (cases_lt 0 b)
         let e : b ≡ 0 = omega arith in
         ap (λ (x : ℕ). min (min a (2 ^ 128 - 1) * x) (2 ^ 128 - 1)) e ∙ ap (λ (x : ℕ). min x (2 ^ 128 - 1)) (mul-zero (min a (2 ^ 128 - 1)) ∙ sym (mul-zero a)) ∙ ap (λ (x : ℕ). min (a * x) (2 ^ 128 - 1)) (sym e)
 
-last_two : (x y z : ℕ) → x * y * z ≡ x * z * y
-last_two x y z = mul_assoc x y z ∙ ap (λ (w : ℕ). x * w) (mul_comm y z) ∙ sym (mul_assoc x z y)
-
-pub product_none : (parts visits peak peak' : ℕ) → visits < 2 ^ 64 → peak < 2 ^ 64 → peak' ≡ peak → (visits + 1) * peak' ≡ min (parts ^ 0 * (visits + 1) * peak) (2 ^ 128 - 1)
-product_none parts visits peak peak' a b e =
-    let w : ℕ = visits + 1 in
-    let high : w ≤ 2 ^ 64 = omega arith in
-    let low : peak ≤ 2 ^ 64 - 1 = omega arith in
-    let whole : w * peak ≤ 2 ^ 64 * (2 ^ 64 - 1) = mul-le-mul high low in
-    let one : parts ^ 0 * w * peak ≡ w * peak = ap (λ (x : ℕ). x * w * peak) (pow-zero parts) ∙ ap (λ (x : ℕ). x * peak) (one-mul w) in
-    ap (λ (x : ℕ). w * x) e ∙ omega (arith, one, whole)
-
-pub product_more : (parts parts' visits peak done product product' : ℕ) → parts' ≡ parts → product ≡ min (parts ^ done * (visits + 1) * peak) (2 ^ 128 - 1) → product' ≡ min (product * parts') (2 ^ 128 - 1) → product' ≡ min (parts ^ (done + 1) * (visits + 1) * peak) (2 ^ 128 - 1)
-product_more parts parts' visits peak done product product' p e f =
-    let w : ℕ = visits + 1 in
-    let a : ℕ = parts ^ done in
-    let power : a * parts ≡ parts ^ (done + 1) = sym (pow-suc parts done) ∙ ap (λ (n : ℕ). parts ^ n) (sym (add-one done)) in
-    let moved : a * w * peak * parts ≡ parts ^ (done + 1) * w * peak = last_two (a * w) peak parts ∙ ap (λ (x : ℕ). x * peak) (last_two a w parts) ∙ ap (λ (x : ℕ). x * w * peak) power in
-    f ∙ ap (λ (x : ℕ). min (product * x) (2 ^ 128 - 1)) p ∙ ap (λ (x : ℕ). min (x * parts) (2 ^ 128 - 1)) e ∙ held_times (a * w * peak) parts ∙ ap (λ (x : ℕ). min x (2 ^ 128 - 1)) moved
+-- so a product that is held at each step decides as the whole one
+pub held_decides : (parts H P power times product : ℕ) → power ≡ min (parts ^ H) (2 ^ 128 - 1) → times ≡ min (power * (H + 1)) (2 ^ 128 - 1) → product ≡ min (times * P) (2 ^ 128 - 1) → product ≡ min (parts ^ H * (H + 1) * P) (2 ^ 128 - 1)
+held_decides parts H P power times product e f h =
+    let so : times ≡ min (parts ^ H * (H + 1)) (2 ^ 128 - 1) = f ∙ ap (λ x. min (x * (H + 1)) (2 ^ 128 - 1)) e ∙ held_times (parts ^ H) (H + 1) in
+    h ∙ ap (λ x. min (x * P) (2 ^ 128 - 1)) so ∙ held_times (parts ^ H * (H + 1)) P

@@ -1,4 +1,5 @@
 pub mod Refusals
 pub mod Places
 pub mod Acceptance
+pub mod Asked
 pub mod Limit

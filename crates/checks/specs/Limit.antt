@@ -1,7 +1,8 @@
 -- The number limit by the greatest size in the book: P is reached, and it alone decides.
-use Rattle.std.specs.Prelude.{◌≡◌, ℕ, zero, suc, ◌<◌, max, cond, T, ◌⊎◌, nat_lt, unsigned_abs}
+use Rattle.std.specs.Prelude.{◌≡◌, ℕ, zero, suc, ◌<◌, max, cond, T, ◌⊎◌, List, fold, nat_lt, unsigned_abs}
 use Rattle.model.specs.Model.{Model, Lawful, offers}
 use Rattle.model.specs.Visits.{visit_after, Place, Bounds, WithinLimit, Fits}
+use Rattle.model.specs.declared.row.Outcome.{Outcome}
 
 -- an amount of share above 0 under an offered remedy at the visits has this size
 pub record AmountOfSize (m : Model) (H P : ℕ) : Type 0 where
@@ -27,6 +28,10 @@ pub record Peak (m : Model) (H P : ℕ) : Type 0 where
 abbrev pub most : ℕ → (ℕ → ℕ) → ℕ
 most zero f = 0
 most (suc n) f = max (most n f) (f n)
+
+-- the largest size of the amounts of some outcomes, or 0
+abbrev pub greatest_size : List Outcome → ℕ
+greatest_size xs = fold (λ top x. max top (unsigned_abs x.amount)) 0 xs
 
 module _ (m : Model) where
   -- the largest size of a worth

@@ -1,3 +1,4 @@
+ghost use Rattle.std.specs.Prelude.{◌≤◌};
 ghost use Rattle.model.specs.Model.{offers};
 ghost use Rattle.checks.specs.Acceptance.{RoomChecked, NumbersChecked, PlanChecked, JudgeChecked};
 
@@ -15,7 +16,7 @@ fn check_room<B: Book>(
 ) -> Result<usize, PlanRefusal>
     ensures { RoomChecked (offers (B.model book.now)) visits values remedies result }
 {
-    if visits < 1 || visits > 48 {
+    if !(1..=48).contains(&visits) {
         return Err(PlanRefusal::Visits);
     }
     let conditions = book.conditions();
@@ -28,10 +29,10 @@ fn check_room<B: Book>(
 
 // The shares and the number limit.
 fn check_numbers<B: Book>(book: &B, visits: usize) -> Result<(), PlanRefusal>
+    requires { visits ≤ 48 }
     ensures { NumbersChecked (B.model book.now) visits result }
 {
-    if let Some(place) = first_uneven(book, visits) {
-        let (visit, condition, remedy) = place;
+    if let Some((visit, condition, remedy)) = first_uneven(book, visits) {
         return Err(PlanRefusal::Uneven {
             visit,
             condition,
@@ -54,8 +55,7 @@ pub fn check_plan<B: Book>(
     ensures { PlanChecked (B.model book.now) visits values remedies result }
 {
     let filled = check_room(book, visits, values, remedies)?;
-    if let Some(place) = first_stuck(book, visits) {
-        let (visit, condition) = place;
+    if let Some((visit, condition)) = first_stuck(book, visits) {
         return Err(PlanRefusal::Stuck { visit, condition });
     }
     check_numbers(book, visits)?;
@@ -72,8 +72,7 @@ pub fn check_judgement<B: Book>(
     ensures { JudgeChecked (B.model book.now) visits values remedies.now result }
 {
     let filled = check_room(book, visits, values, remedies.len())?;
-    if let Some(place) = first_misnamed(book, visits, remedies) {
-        let (visit, condition, remedy) = place;
+    if let Some((visit, condition, remedy)) = first_misnamed(book, visits, remedies) {
         return Err(PlanRefusal::Rule {
             visit,
             condition,

@@ -54,8 +54,8 @@ impl PlanRefusal {
                 visit,
                 condition,
                 remedy,
-            } => (visit, condition, remedy),
-            PlanRefusal::Rule {
+            }
+            | PlanRefusal::Rule {
                 visit,
                 condition,
                 remedy,

@@ -1,12 +1,9 @@
-use Rattle.std.proofs.Common.{◌^◌, ◌<◌, rules}
-use Rattle.checks.proofs.Products.{product_none, product_more}
+use Rattle.std.proofs.Common.{◌≡◌, ◌-◌, ◌*◌, ◌^◌, min, ap, ◌∙◌, rules}
+use Rattle.checks.proofs.Products.{held_decides}
 use Rattle.checks.proofs.limit.within_limit.Goals as goal
 
-pub loop-done-init : goal.loop-done-init
-loop-done-init c =
-    let a : c.args.visits < 2 ^ 64 = search rules in
-    let b : c.args.peak < 2 ^ 64 = search rules in
-    product_none c.args.parts c.args.visits c.args.peak c.from.result a b c.from.ensures
-
-pub loop-done-preserved : goal.loop-done-preserved
-loop-done-preserved c = product_more c.args.parts _ c.args.visits c.args.peak c.loop-done.done c.loop-done.product _ c.from-in-loop-done.ensures c.loop-done.invariant c.saturating_mul-product.ensures
+pub returns : goal.returns
+returns c =
+    let power : c.saturating_pow.result ≡ min (c.args.parts ^ c.args.visits) (2 ^ 128 - 1) = search rules in
+    let whole = held_decides c.args.parts c.args.visits c.args.peak _ _ _ power c.saturating_mul.ensures (c.saturating_mul-product.ensures ∙ ap (λ x. min (c.saturating_mul.result * x) (2 ^ 128 - 1)) c.from-2.ensures) in
+    search rules

@@ -1,8 +1,14 @@
-use Rattle.std.proofs.Common.{◌<◌, arith}
+use Rattle.std.proofs.Common.{T, refl, arith, rules, tests}
+use Rattle.std.proofs.lemmas.Iterator.{YieldsList-from_range, cases_from_any}
+use Rattle.model.specs.Model.{offers}
+use Rattle.checks.proofs.Places.{offered_below}
 use Rattle.checks.proofs.search.any_offered.Goals as goal
 
 pub returns : goal.returns
-returns g c r t =
-    let inside = ((g.B.Book.lawful c.args.book.now).offered_inside c.args.visit c.args.condition r t).some_remedy in
-    let low : r < c.loop-remedy.remedy = omega (arith, c.remedies-remedy-end.ensures) in
-    c.loop-remedy.invariant r low t
+returns g c =
+    let o = offers (g.B.Book.model c.args.book.now) in
+    let n = c.args.visit in
+    let s = c.args.condition in
+    let k = c.remedies.result in
+    offered_below o n s k c.any.result c.remedies.ensures (λ r t. ((g.B.Book.lawful c.args.book.now).offered_inside n s r t).some_remedy)
+    (cases_from_any _ _ c.any.result (λ r. T (o.offered n s r)) (λ r. T (o.offered n s r) → ⊥) c.any.ensures.ran (YieldsList-from_range 0 k k refl (omega arith)) (λ x q k. search (rules, tests)) (λ x q k. search (rules, tests)))

@@ -1,20 +1,26 @@
-use Rattle.std.proofs.Common.{◌≤◌, arith}
+use Rattle.std.proofs.Common.{ap, ◌∙◌, arith}
 use Rattle.model.specs.Model.{offers}
 use Rattle.model.specs.Visits.{SomeOffered}
-use Rattle.checks.proofs.Places.{clear_more}
-use Rattle.checks.proofs.Alike.{clear_alike, some_alike}
+use Rattle.checks.proofs.Places.{clear_before}
+use Rattle.checks.proofs.Alike.{asked_at, clear_alike, some_alike}
 use Rattle.checks.proofs.search.first_stuck.Goals as goal
 
-pub loop-condition-preserved : goal.loop-condition-preserved
-loop-condition-preserved g c =
-    let o = offers (g.B.Book.model c.args.book.now) in
-    (c.loop-condition.invariant.0, clear_more o c.args.visits (SomeOffered o) c.visit_of-visit.result c.loop-condition.condition c.if-not-any_offered.ensures c.loop-condition.invariant.1)
-
-pub places-preserved : goal.places-preserved
-places-preserved g c =
+pub returns-in-Some-bare_condition : goal.returns-in-Some-bare_condition
+returns-in-Some-bare_condition g c =
     let m = g.B.Book.model c.args.book.now in
-    let n = c.visit_of-visit.result in
-    let s = c.loop-condition.condition in
-    let some : 1 ≤ n = omega (arith, c.visit_of-visit.ensures) in
-    let all : m.conditions ≤ s = omega (arith, c.conditions-conditions.ensures, c.loop-condition-test.false) in
-    (c.loop-condition.invariant.0, clear_alike (offers m) c.args.visits (SomeOffered (offers m)) n c.alike_until-row.result s some (λ k j a b. some_alike m n k (c.alike_until-row.ensures.1 k a b) j) all c.loop-condition.invariant.1)
+    let i = c.loop-visit.invariant in
+    let asked = asked_at m _ c.args.visits _ _ _ _ (ap g.B.Book.model i.0) i.1 c.in-Some.ensures.steps.2 in
+    let found = c.in-Some-bare_condition.ensures in
+    record {
+      place = record { from = omega (arith, asked.next); to = omega (arith, asked.next, asked.some); condition = found.0 };
+      bare = found.1;
+      first = clear_before (offers m) c.args.visits (SomeOffered (offers m)) _ _ _ asked.next found.2 i.2;
+    }
+
+pub loop-visit-preserved : goal.loop-visit-preserved
+loop-visit-preserved g c =
+    let m = g.B.Book.model c.args.book.now in
+    let i = c.loop-visit.invariant in
+    let step = c.in-Some.ensures.steps in
+    let asked = asked_at m _ c.args.visits _ _ _ _ (ap g.B.Book.model i.0) i.1 step.2 in
+    (ap (λ b. b.now) step.0 ∙ i.0, step.1 ∙ i.1, clear_alike m c.args.visits (SomeOffered (offers m)) _ _ _ asked (λ k s a x. some_alike m _ k a s x) c.in_default.ensures i.2)

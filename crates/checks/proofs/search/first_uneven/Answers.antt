@@ -1,25 +1,12 @@
-use Rattle.std.proofs.Common.{◌<◌, ◌≤◌, arith}
-use Rattle.model.specs.Model.{offers}
-use Rattle.checks.proofs.Places.{EvenIn, clear_more}
-use Rattle.checks.proofs.Alike.{clear_alike, even_alike}
+use Rattle.std.proofs.Common.{ap, ◌∙◌}
+use Rattle.checks.specs.Places.{EvenIn}
+use Rattle.checks.proofs.Alike.{asked_at, clear_alike, even_alike}
 use Rattle.checks.proofs.search.first_uneven.Goals as goal
 
-pub loop-condition-preserved : goal.loop-condition-preserved
-loop-condition-preserved g c =
+pub loop-visit-preserved : goal.loop-visit-preserved
+loop-visit-preserved g c =
     let m = g.B.Book.model c.args.book.now in
-    let n = c.visit_of-visit.result in
-    let s = c.loop-condition.condition in
-    let here : EvenIn m n s = λ r t.
-    let inside = ((g.B.Book.lawful c.args.book.now).offered_inside n s r t).some_remedy in
-    let low : r < c.loop-remedy.remedy = omega (arith, c.remedies-remedies.ensures) in
-    c.loop-remedy.invariant.2 r low t in
-    (c.loop-remedy.invariant.0, clear_more (offers m) c.args.visits (EvenIn m) n s here c.loop-remedy.invariant.1)
-
-pub places-preserved : goal.places-preserved
-places-preserved g c =
-    let m = g.B.Book.model c.args.book.now in
-    let n = c.visit_of-visit.result in
-    let s = c.loop-condition.condition in
-    let some : 1 ≤ n = omega (arith, c.visit_of-visit.ensures) in
-    let all : m.conditions ≤ s = omega (arith, c.conditions-conditions.ensures, c.loop-condition-test.false) in
-    (c.loop-condition.invariant.0, clear_alike (offers m) c.args.visits (EvenIn m) n c.alike_until-row.result s some (λ k j a b. even_alike m n k (c.alike_until-row.ensures.1 k a b) j) all c.loop-condition.invariant.1)
+    let i = c.loop-visit.invariant in
+    let step = c.in-Some.ensures.steps in
+    let asked = asked_at m _ c.args.visits _ _ _ _ (ap g.B.Book.model i.0) i.1 step.2 in
+    (ap (λ b. b.now) step.0 ∙ i.0, step.1 ∙ i.1, clear_alike m c.args.visits (EvenIn m) _ _ _ asked (λ k s a x. even_alike m _ k a s x) c.in_default.ensures i.2)
