@@ -1,141 +1,142 @@
 -- Rows of the tables, and what a write to one leaves.
-use Rattle.std.proofs.Common.{◌≡◌, ℕ, ◌+◌, ◌-◌, ◌*◌, ◌<◌, ◌≤◌, ◌≢◌, List, length, get_or, take, drop, set, sym, refl, ap, ◌∙◌, subst, ⊎_elim, mul-le-mul_right, suc-mul, add-mul, eq-or-lt_of_le, one-mul, arith, below_more}
-use Rattle.std.proofs.lemmas.List.{get_or-set_same, get_or-set_other, get_or-drop, length-set, drop-set-lt, drop-drop}
+use Rattle.std.proofs.Common.{◌≡◌, ℕ, ◌+◌, ◌-◌, ◌*◌, ◌<◌, ◌≤◌, ◌≢◌, List, [], ◌++◌, length, get_or, take, drop, set, sym, refl, ap, ◌∙◌, subst, ⊎_elim, mul-le-mul_right, add-mul, one-mul, eq-or-lt_of_le, arith, below_more}
+use Rattle.std.proofs.lemmas.List.{get_or-set_same, get_or-set_other, drop-drop, take_at, drop_at, length-take-le, length-drop, take-append-drop, drop-append-le, drop_all, length-append, append-nil}
+use borrow.Rule.Slice.PartMut.{put_mid}
 use Rattle.model.specs.Model.{Model}
+use Rattle.model.specs.Visits.{visit_after}
 use Rattle.criteria.specs.Criteria.{Ops}
-use Rattle.planning.specs.Tables.{at, row_of, Entry, Row, Closed, Filled}
+use Rattle.planning.specs.Tables.{row_of, Entry, AsAsked, Closed, RowsWritten}
+
+-- one entry more of a row
+pub entries_more : {V : Type 0} (P : ℕ → ℕ → V → Type 0) (d : V) (k : ℕ) (vs vs' : List V) (rs rs' : List ℕ) (r : ℕ) (v : V) → k < length vs → k < length rs →
+    vs' ≡ set vs k v → rs' ≡ set rs k r → P k r v → ((s : ℕ) → s < k → P s (get_or rs s 0) (get_or vs s d)) → (s : ℕ) → s < k + 1 → P s (get_or rs' s 0) (get_or vs' s d)
+entries_more P d k vs vs' rs rs' r v a b e f here below =
+    subst (λ xs. (s : ℕ) → s < k + 1 → P s (get_or rs' s 0) (get_or xs s d)) (sym e)
+    (subst (λ ys. (s : ℕ) → s < k + 1 → P s (get_or ys s 0) (get_or (set vs k v) s d)) (sym f)
+    (below_more (λ s. P s (get_or (set rs k r) s 0) (get_or (set vs k v) s d)) k
+    (λ s h. let ne : s ≢ k = omega arith in
+    subst (λ y. P s y (get_or (set vs k v) s d)) (sym (get_or-set_other rs k s r 0 ne)) (subst (λ x. P s (get_or rs s 0) x) (sym (get_or-set_other vs k s v d ne)) (below s h)))
+    (subst (λ y. P k y (get_or (set vs k v) k d)) (sym (get_or-set_same rs k r 0 b)) (subst (λ x. P k r x) (sym (get_or-set_same vs k v d a)) here))))
 
 pub next_row : (n c : ℕ) → (n + 1) * c ≡ n * c + c
 next_row n c = omega (arith, add-mul n 1 c, one-mul c)
 
-pub next_rows : (n c : ℕ) → (n + 2) * c ≡ n * c + c + c
-next_rows n c = omega (arith, add-mul n 2 c, suc-mul 1 c, one-mul c)
-
 -- what stands from k on stays, so what stands from a later place on does
-pub kept_drop : {X : Type 0} (k i : ℕ) (xs ys : List X) → k ≤ i → drop k xs ≡ drop k ys → drop i xs ≡ drop i ys
+kept_drop : {X : Type 0} (k i : ℕ) (xs ys : List X) → k ≤ i → drop k xs ≡ drop k ys → drop i xs ≡ drop i ys
 kept_drop k i xs ys h e =
     let at_i : k + (i - k) ≡ i = omega arith in
     let far : (zs : List _) → drop (i - k) (drop k zs) ≡ drop i zs = λ zs. drop-drop (i - k) k zs ∙ ap (λ x. drop x zs) at_i in
     sym (far xs) ∙ ap (drop (i - k)) e ∙ far ys
 
-kept_at : {X : Type 0} (k i : ℕ) (xs ys : List X) (d : X) → k ≤ i → drop k xs ≡ drop k ys → get_or xs i d ≡ get_or ys i d
-kept_at k i xs ys d h e =
-    let at_i : k + (i - k) ≡ i = omega arith in
-    let far : (zs : List _) → get_or (drop k zs) (i - k) d ≡ get_or zs i d = λ zs. get_or-drop k zs (i - k) d ∙ ap (λ x. get_or zs x d) at_i in
-    sym (far xs) ∙ ap (λ zs. get_or zs (i - k) d) e ∙ far ys
+-- a table with another row n, from that row on
+abbrev pub Replaced : {X : Type 0} → (n c : ℕ) → (xs row xs' : List X) → Type 0
+Replaced n c xs row xs' = (length row ≡ c) × (drop (n * c) xs' ≡ row ++ drop ((n + 1) * c) xs)
 
--- the row after n, by the number of conditions that the code has
-part_is : {V : Type 0} (n c c' : ℕ) (vs es : List V) → c' ≡ c → drop ((n + 1) * c) vs ≡ drop ((n + 1) * c) es → take c' (drop ((n + 1) * c') vs) ≡ take c (drop ((n + 1) * c) es)
-part_is n c c' vs es e kept = ap (λ x. take x (drop ((n + 1) * x) vs)) e ∙ ap (take c) kept
+module _ {X : Type 0} (n c : ℕ) (xs row xs' : List X) where
+  row_is : Replaced n c xs row xs' → take c (drop (n * c) xs') ≡ row
+  row_is (long, e) = ap (take c) e ∙ take_at row (drop ((n + 1) * c) xs) c long
+
+  rest_is : Replaced n c xs row xs' → drop ((n + 1) * c) xs' ≡ drop ((n + 1) * c) xs
+  rest_is (long, e) = ap (λ i. drop i xs') (next_row n c) ∙ sym (drop-drop c (n * c) xs') ∙ ap (drop c) e ∙ drop_at row (drop ((n + 1) * c) xs) c long
+
+-- the row n as the code reads it, which has c' for c
+pub row_stays : {X : Type 0} (n c c' k : ℕ) (xs : List X) → c' ≡ c → k ≡ c' → (n + 1) * c ≤ length xs → Replaced n c xs (take k (drop (n * c') xs)) xs
+row_stays n c c' k xs e f room =
+    let one : (n + 1) * c ≡ n * c + c = next_row n c in
+    let rest = drop (n * c) xs in
+    let long : length (take c rest) ≡ c = length-take-le c rest (omega (arith, length-drop (n * c) xs)) in
+    let row : take k (drop (n * c') xs) ≡ take c rest = ap (λ i. take i (drop (n * c') xs)) (f ∙ e) ∙ ap (λ i. take c (drop (n * i) xs)) e in (
+      ap length row ∙ long,
+      sym (take-append-drop c rest) ∙ ap (λ ys. take c rest ++ ys) (drop-drop c (n * c) xs ∙ ap (λ i. drop i xs) (sym one)) ∙ ap (λ r. r ++ drop ((n + 1) * c) xs) (sym row),
+    )
+
+below_append : {X : Type 0} (xs ys : List X) (i : ℕ) → i ≤ length xs → i ≤ length (xs ++ ys)
+below_append xs ys i h = omega (arith, length-append xs ys)
+
+-- a write to a part of a table, from there on
+part_put : {X : Type 0} (a k : ℕ) (xs ys : List X) → a ≤ length xs → drop a (put_mid a k xs ys) ≡ ys ++ drop (a + k) xs
+part_put a k xs ys room = drop_at (take a xs) _ a (length-take-le a xs room) ∙ ap (λ zs. ys ++ zs) (drop-drop k a xs)
+
+-- a write to it
+pub row_put : {X : Type 0} (n c c' k : ℕ) (xs row : List X) → c' ≡ c → k ≡ c' → (n + 1) * c ≤ length xs → length row ≡ c' → Replaced n c xs row (put_mid (n * c') k xs row)
+row_put n c c' k xs row e f room long =
+    let one : (n + 1) * c ≡ n * c + c = next_row n c in
+    let far : n * c + k ≡ (n + 1) * c = omega arith in
+    (long ∙ e, ap (λ x. drop (n * c) (put_mid (n * x) k xs row)) e ∙ part_put (n * c) k xs row (omega arith) ∙ ap (λ i. row ++ drop i xs) far)
+
+-- a write to the row n, the last of the front of a table
+pub last_put : {X : Type 0} (n c c' k : ℕ) (xs front back row : List X) → c' ≡ c → k ≡ c' → length front ≡ n * c' + c' → back ≡ drop (n * c' + c') xs → length row ≡ c' →
+    Replaced n c xs row (put_mid (n * c') k front row ++ back)
+last_put n c c' k xs front back row e f whole rest long =
+    let one : (n + 1) * c ≡ n * c + c = next_row n c in
+    let same : n * c' ≡ n * c = ap (λ x. n * x) e in
+    let far : n * c' + c' ≡ (n + 1) * c = omega arith in
+    let none : drop (n * c + k) front ≡ [] = drop_all (n * c + k) front (omega arith) in
+    let low : n * c ≤ length front = omega arith in
+    let put = put_mid (n * c) k front row in
+    let high : n * c ≤ length put = below_append (take (n * c) front) _ (n * c) (omega (arith, length-take-le (n * c) front low)) in (
+      long ∙ e,
+      ap (λ x. drop (n * c) (put_mid (n * x) k front row ++ back)) e ∙ drop-append-le (n * c) put back high
+          ∙ ap (λ ys. ys ++ back) (part_put (n * c) k front row low ∙ ap (λ ys. row ++ ys) none ∙ append-nil row)
+          ∙ ap (λ ys. row ++ ys) (rest ∙ ap (λ i. drop i xs) far),
+    )
 
 module _ {V A : Type 0} (o : Ops V A) (m : Model) (E : Entry V) where
-  entry_moved : (n left s : ℕ) (later : List V) (r r' : ℕ) (v v' : V) → r' ≡ r → v' ≡ v → E n left s later r v → E n left s later r' v'
-  entry_moved n left s later r r' v v' p q b = subst (λ x. E n left s later x v') (sym p) (subst (λ x. E n left s later r x) (sym q) b)
+  asked_moved : (visit left : ℕ) (later later' vs vs' : List V) (rs rs' : List ℕ) → later' ≡ later → vs' ≡ vs → rs' ≡ rs → AsAsked o m E visit left later vs rs → AsAsked o m E visit left later' vs' rs'
+  asked_moved visit left later later' vs vs' rs rs' p q r h =
+      subst (λ x. AsAsked o m E visit left x vs' rs') (sym p) (subst (λ x. AsAsked o m E visit left later x rs') (sym q) (subst (λ x. AsAsked o m E visit left later vs x) (sym r) h))
 
-  -- one place more of a row
-  row_more : (n left : ℕ) (later : List V) (k : ℕ) (vs : List V) (rs : List ℕ) (r : ℕ) (v : V) →
-      n * m.conditions + k < length vs → n * m.conditions + k < length rs → E n left k later r v → Row o m E n left later k vs rs →
-      Row o m E n left later (k + 1) (set vs (n * m.conditions + k) v) (set rs (n * m.conditions + k) r)
-  row_more n left later k vs rs r v a b here below =
-      let i = n * m.conditions in
-      below_more (λ s. E n left s later (get_or (set rs (i + k) r) (i + s) 0) (at o (set vs (i + k) v) (i + s))) k
-      (λ s h. let ne : i + s ≢ i + k = omega arith in
-      entry_moved n left s later _ _ _ _ (get_or-set_other rs (i + k) (i + s) r 0 ne) (get_or-set_other vs (i + k) (i + s) v _ ne) (below s h))
-      (entry_moved n left k later _ _ _ _ (get_or-set_same rs (i + k) r 0 b) (get_or-set_same vs (i + k) v _ a) here)
-
-  -- the row n under way: its first k places are as asked, what stands after it is as it was
-  pub record Filling (n left : ℕ) (es : List V) (er : List ℕ) (k : ℕ) (vs : List V) (rs : List ℕ) : Type 0 where
-    pub long : length vs ≡ length es
-    pub values : drop ((n + 1) * m.conditions) vs ≡ drop ((n + 1) * m.conditions) es
-    pub remedies : drop ((n + 1) * m.conditions) rs ≡ drop ((n + 1) * m.conditions) er
-    pub filled : Row o m E n left (row_of m es (n + 1)) k vs rs
-
-  pub filling_none : (n left : ℕ) (es : List V) (er : List ℕ) → Filling n left es er 0 es er
-  filling_none n left es er = record { long = refl; values = refl; remedies = refl; filled = λ s h. absurd (none s h) }
+  rows_none : (H : ℕ) (vs row vs' : List V) (rs : List ℕ) → Replaced H m.conditions vs row vs' → Closed o m row → RowsWritten o m E H H vs vs' rs rs
+  rows_none H vs row vs' rs put h = record {
+    filled = record { closed = subst (Closed o m) (sym (row_is H m.conditions vs row vs' put)) h; rows = λ n a b. absurd (never n a b) };
+    values = rest_is H m.conditions vs row vs' put;
+    remedies = refl;
+  }
     where
-      none : (s : ℕ) → s < 0 → ⊥
-      none s h = omega arith
-
-  pub filling_more : (n left : ℕ) (es : List V) (er : List ℕ) (k : ℕ) (vs vs' : List V) (rs rs' : List ℕ) (c' r : ℕ) (v : V) →
-      c' ≡ m.conditions → (n + 2) * m.conditions ≤ length es → (n + 1) * m.conditions ≤ length rs → k < c' →
-      vs' ≡ set vs (n * c' + k) v → rs' ≡ set rs (n * c' + k) r →
-      E n left k (take c' (drop ((n + 1) * c') vs)) r v →
-      Filling n left es er k vs rs → Filling n left es er (k + 1) vs' rs'
-  filling_more n left es er k vs vs' rs rs' c' r v e room place below ve re entry f =
-      let c = m.conditions in
-      let i : ℕ = n * c + k in
-      let at_i : n * c' + k ≡ i = ap (λ x. n * x + k) e in
-      let ve' : vs' ≡ set vs i v = ve ∙ ap (λ x. set vs x v) at_i in
-      let re' : rs' ≡ set rs i r = re ∙ ap (λ x. set rs x r) at_i in
-      let l = f.long in
-      let one : (n + 1) * c ≡ n * c + c = next_row n c in
-      let two : (n + 2) * c ≡ n * c + c + c = next_rows n c in
-      let low : i < (n + 1) * c = omega arith in
-      let in_vs : i < length vs = omega arith in
-      let in_rs : i < length rs = omega arith in
-      let here : E n left k (row_of m es (n + 1)) r v = subst (λ x. E n left k x r v) (part_is n c c' vs es e f.values) entry in
-      record {
-        long = ap length ve' ∙ length-set vs i v ∙ f.long;
-        values = ap (drop ((n + 1) * c)) ve' ∙ drop-set-lt ((n + 1) * c) vs i v low ∙ f.values;
-        remedies = ap (drop ((n + 1) * c)) re' ∙ drop-set-lt ((n + 1) * c) rs i r low ∙ f.remedies;
-        filled = subst (λ x. Row o m E n left (row_of m es (n + 1)) (k + 1) x rs') (sym ve') (subst (λ y. Row o m E n left (row_of m es (n + 1)) (k + 1) (set vs i v) y) (sym re') (row_more n left (row_of m es (n + 1)) k vs rs r v in_vs in_rs here f.filled));
-      }
-
-  -- the whole row is as asked
-  pub filling_all : (n left : ℕ) (es : List V) (er : List ℕ) (k : ℕ) (vs : List V) (rs : List ℕ) → m.conditions ≤ k → Filling n left es er k vs rs → Row o m E n left (row_of m vs (n + 1)) m.conditions vs rs
-  filling_all n left es er k vs rs h f = λ s y.
-      let z : s < k = omega arith in
-      subst (λ x. E n left s x (get_or rs (n * m.conditions + s) 0) (at o vs (n * m.conditions + s))) (sym (ap (take m.conditions) f.values)) (f.filled s z)
-
-  -- before any row
-  pub filled_none : (visits : ℕ) (vs : List V) (rs : List ℕ) → Closed o m visits m.conditions vs → Filled o m E visits visits vs rs
-  filled_none visits vs rs h = record { closed = h; rows = λ n a b. absurd (never n a b) }
-    where
-      never : (n : ℕ) → visits ≤ n → n < visits → ⊥
+      never : (n : ℕ) → H ≤ n → n < H → ⊥
       never n a b = omega arith
 
-  -- one row more, from the back
-  pub filled_more : (visits n : ℕ) (vs vs' : List V) (rs rs' : List ℕ) → n < visits →
-      Row o m E n (visits - n) (row_of m vs' (n + 1)) m.conditions vs' rs' →
-      drop ((n + 1) * m.conditions) vs' ≡ drop ((n + 1) * m.conditions) vs →
-      drop ((n + 1) * m.conditions) rs' ≡ drop ((n + 1) * m.conditions) rs →
-      Filled o m E visits (n + 1) vs rs → Filled o m E visits n vs' rs'
-  filled_more visits n vs vs' rs rs' below here kv kr f = record { closed = closed'; rows = rows' }
+  rows_more : (H n visit : ℕ) (later es vs row vs' : List V) (er rs names rs' : List ℕ) → n < H → visit ≡ n + 1 → later ≡ row_of m vs (n + 1) →
+      Replaced n m.conditions vs row vs' → Replaced n m.conditions rs names rs' → AsAsked o m E visit (H - n) later row names →
+      RowsWritten o m E H (n + 1) es vs er rs → RowsWritten o m E H n es vs' er rs'
+  rows_more H n visit later es vs row vs' er rs names rs' below e f put_v put_r asked w = record {
+    filled = record { closed = subst (Closed o m) (sym (row_same H below)) w.filled.closed; rows = rows' };
+    values = kept_drop _ _ vs' vs (far (H + 1) (omega arith)) kv ∙ w.values;
+    remedies = kept_drop _ _ rs' rs (far H below) kr ∙ w.remedies;
+  }
     where
-      past : (k s : ℕ) → n + 1 ≤ k → (n + 1) * m.conditions ≤ k * m.conditions + s
-      past k s h = omega (arith, mul-le-mul_right m.conditions h)
+      c : ℕ
+      c = m.conditions
 
-      closed' : (s : ℕ) → s < m.conditions → at o vs' (visits * m.conditions + s) ≡ o.closing (m.worth s)
-      closed' s h = kept_at _ _ vs' vs _ (past visits s (omega arith)) kv ∙ f.closed s h
+      kv : drop ((n + 1) * m.conditions) vs' ≡ drop ((n + 1) * m.conditions) vs
+      kv = rest_is n m.conditions vs row vs' put_v
 
-      later : (k s : ℕ) → n + 1 ≤ k → k < visits → s < m.conditions → E k (visits - k) s (row_of m vs' (k + 1)) (get_or rs' (k * m.conditions + s) 0) (at o vs' (k * m.conditions + s))
-      later k s h y z =
-          let far : (n + 1) * m.conditions ≤ (k + 1) * m.conditions = mul-le-mul_right m.conditions (omega arith) in
-          let same : row_of m vs' (k + 1) ≡ row_of m vs (k + 1) = ap (take m.conditions) (kept_drop ((n + 1) * m.conditions) ((k + 1) * m.conditions) vs' vs far kv) in
-          entry_moved k (visits - k) s (row_of m vs' (k + 1)) _ _ _ _ (kept_at _ _ rs' rs 0 (past k s h) kr) (kept_at _ _ vs' vs _ (past k s h) kv)
-          (subst (λ x. E k (visits - k) s x (get_or rs (k * m.conditions + s) 0) (at o vs (k * m.conditions + s))) (sym same) (f.rows k h y s z))
+      kr : drop ((n + 1) * m.conditions) rs' ≡ drop ((n + 1) * m.conditions) rs
+      kr = rest_is n m.conditions rs names rs' put_r
 
-      rows' : (k : ℕ) → n ≤ k → k < visits → Row o m E k (visits - k) (row_of m vs' (k + 1)) m.conditions vs' rs'
+      far : (k : ℕ) → n < k → (n + 1) * m.conditions ≤ k * m.conditions
+      far k h = mul-le-mul_right m.conditions (omega arith)
+
+      row_same : (k : ℕ) → n < k → row_of m vs' k ≡ row_of m vs k
+      row_same k h = ap (take m.conditions) (kept_drop _ _ vs' vs (far k h) kv)
+
+      rows' : (k : ℕ) → n ≤ k → k < H → AsAsked o m E (visit_after k) (H - k) (row_of m vs' (k + 1)) (row_of m vs' k) (row_of m rs' k)
       rows' k h y = ⊎_elim
-          (λ e. subst (λ x. Row o m E x (visits - x) (row_of m vs' (x + 1)) m.conditions vs' rs') e here)
-          (λ z. λ s b. later k s (omega arith) y b)
+          (λ e'. subst (λ x. AsAsked o m E (visit_after x) (H - x) (row_of m vs' (x + 1)) (row_of m vs' x) (row_of m rs' x)) e'
+          (asked_moved (visit_after n) (H - n) later _ row _ names _ (row_same (n + 1) (omega arith) ∙ sym f) (row_is n m.conditions vs row vs' put_v) (row_is n m.conditions rs names rs' put_r)
+          (subst (λ x. AsAsked o m E x (H - n) later row names) (let z : visit ≡ visit_after n = omega arith in z) asked)))
+          (λ z. asked_moved (visit_after k) (H - k) _ _ _ _ _ _ (row_same (k + 1) (omega arith)) (row_same k z) (ap (take m.conditions) (kept_drop _ _ rs' rs (far k z) kr)) (w.filled.rows k (omega arith) y))
           (eq-or-lt_of_le h)
 
--- one closing value more
-pub closing_more : {V A : Type 0} (o : Ops V A) (m : Model) (visits k c' : ℕ) (vs es : List V) (v : V) →
-    c' ≡ m.conditions → (visits + 1) * m.conditions ≤ length vs → k < c' → v ≡ o.closing (m.worth k) →
-    Closed o m visits k vs × (drop ((visits + 1) * m.conditions) vs ≡ drop ((visits + 1) * m.conditions) es) →
-    Closed o m visits (k + 1) (set vs (visits * c' + k) v) × (drop ((visits + 1) * m.conditions) (set vs (visits * c' + k) v) ≡ drop ((visits + 1) * m.conditions) es)
-closing_more o m visits k c' vs es v e room below ve f =
-    let c = m.conditions in
-    let i : ℕ = visits * c + k in
-    let at_i : visits * c' + k ≡ i = ap (λ x. visits * x + k) e in
-    let one : (visits + 1) * c ≡ visits * c + c = next_row visits c in
-    let low : i < (visits + 1) * c = omega arith in
-    let in_vs : i < length vs = omega arith in
-    subst (λ x. Closed o m visits (k + 1) (set vs x v) × (drop ((visits + 1) * c) (set vs x v) ≡ drop ((visits + 1) * c) es)) (sym at_i) (
-      below_more (λ s. at o (set vs i v) (visits * c + s) ≡ o.closing (m.worth s)) k
-          (λ s h. let ne : visits * c + s ≢ i = omega arith in get_or-set_other vs i (visits * c + s) v _ ne ∙ f.0 s h)
-          (get_or-set_same vs i v _ in_vs ∙ ve),
-      drop-set-lt ((visits + 1) * c) vs i v low ∙ f.1,
-    )
+  -- before any row: the closing values are written
+  pub rows_closed : (H c' k : ℕ) (vs row : List V) (rs : List ℕ) → c' ≡ m.conditions → k ≡ c' → (H + 1) * m.conditions ≤ length vs → length row ≡ c' → Closed o m row →
+      RowsWritten o m E H H vs (put_mid (H * c') k vs row) rs rs
+  rows_closed H c' k vs row rs e f room long h = rows_none H vs row _ rs (row_put H m.conditions c' k vs row e f room long) h
+
+  -- one row more, from the back: the last of the front of the table of values
+  pub row_written : (H n c' k : ℕ) (es vs front back row : List V) (er rs names rs' : List ℕ) → n < H → c' ≡ m.conditions → k ≡ c' → length front ≡ n * c' + c' → back ≡ drop (n * c' + c') vs → length row ≡ c' →
+      Replaced n m.conditions rs names rs' → AsAsked o m E (n + 1) (H - n) (take c' back) row names →
+      RowsWritten o m E H (n + 1) es vs er rs → RowsWritten o m E H n es (put_mid (n * c') k front row ++ back) er rs'
+  row_written H n c' k es vs front back row er rs names rs' below e f whole rest long put asked w =
+      let later : take c' back ≡ row_of m vs (n + 1) = ap (take c') rest ∙ ap (λ x. take x (drop (n * x + x) vs)) e ∙ ap (λ i. take m.conditions (drop i vs)) (sym (next_row n m.conditions)) in
+      rows_more H n (n + 1) (take c' back) es vs row _ er rs names rs' below refl later (last_put n m.conditions c' k vs front back row e f whole rest long) put asked w

@@ -1,49 +1,39 @@
-ghost use Rattle.std.specs.Prelude.{◌+◌, ◌*◌, ◌<◌, ◌≤◌, length};
+ghost use Rattle.std.specs.Prelude.{◌≡◌, length};
 ghost use Rattle.model.specs.Model.{offers};
 ghost use Rattle.checks.specs.Acceptance.{InOrder};
-ghost use Rattle.planning.specs.Tables.{Valued, RowWritten, RowsWritten};
+ghost use Rattle.planning.specs.Tables.{Closed, Valued, AsAsked, RowsWritten};
 ghost use Rattle.planning.specs.Judgements.{JudgeAnswers};
 
-use super::outcomes::value_under;
-use super::rows::{fill_closing, row_after};
+use super::stage::Stage;
 use checks::ready::check_judgement;
 use checks::refusal::PlanRefusal;
-use checks::visit::visit_of;
 use criteria::criterion::Criterion;
 use model::Book;
-use model::row::Outcome;
+use model::row::Row;
 
-// Writes the values of a row of given remedies, from the row of values after it.
-fn judge_row<B: Book, C: Criterion>(
-    book: &B,
-    by: &C,
-    row: usize,
-    left: usize,
-    remedies: &[u8],
-    values: &mut [C::Value],
-    outcomes: &mut [Outcome; 32],
-)
-    requires short { row < 48 }
-    requires room { (row + 2) * (B.model book.now).conditions ≤ length values.old }
-    requires place { (row + 1) * (B.model book.now).conditions ≤ length remedies.now }
-    ensures { RowWritten (C.ops by.now) (B.model book.now) (Valued (C.ops by.now) (B.model book.now)) row left values.old values.new remedies.now remedies.now }
+// Writes the closing values.
+pub(crate) fn close_row<B: Book, C: Criterion>(book: &B, by: &C, values: &mut [C::Value])
+    requires { length values.old ≡ (B.model book.now).conditions }
+    ensures { Closed (C.ops by.now) (B.model book.now) values.new }
 {
-    let conditions = book.conditions();
-    let visit = visit_of(row);
-    let start = row * conditions;
-    for condition in 0..conditions {
-        let remedy = usize::from(remedies[start + condition]);
-        let value = value_under(
-            book,
-            by,
-            visit,
-            left,
-            condition,
-            remedy,
-            row_after(values, row, conditions),
-            outcomes,
-        );
-        values[start + condition] = value;
+    for (condition, value) in values.iter_mut().enumerate() {
+        *value = by.closing(book.worth(condition));
+    }
+}
+
+// Writes the values of the remedies of a visit.
+fn judge_row<B: Book, C: Criterion>(
+    stage: &Stage<B, C>,
+    values: &mut [C::Value],
+    remedies: &[u8],
+    row: &mut Row,
+)
+    requires values { length values.old ≡ (B.model stage.now.book.now).conditions }
+    requires remedies { length remedies.now ≡ (B.model stage.now.book.now).conditions }
+    ensures { let o = C.ops stage.now.by.now in let m = B.model stage.now.book.now in AsAsked o m (Valued o m) stage.now.visit stage.now.left stage.now.later.now values.new remedies.now }
+{
+    for (condition, value) in values.iter_mut().enumerate() {
+        *value = stage.value_under(condition, usize::from(remedies[condition]), row);
     }
 }
 
@@ -56,12 +46,29 @@ fn fill_values<B: Book, C: Criterion>(
     values: &mut [C::Value],
 )
     requires { InOrder (offers (B.model book.now)) visits (length values.old) (length remedies.now) }
-    ensures { RowsWritten (C.ops by.now) (B.model book.now) (Valued (C.ops by.now) (B.model book.now)) visits values.old values.new remedies.now remedies.now }
+    ensures { RowsWritten (C.ops by.now) (B.model book.now) (Valued (C.ops by.now) (B.model book.now)) visits 0 values.old values.new remedies.now remedies.now }
 {
-    let mut outcomes = [Outcome::BLANK; 32];
-    fill_closing(book, by, visits, values);
-    for row in (0..visits).rev() {
-        judge_row(book, by, row, visits - row, remedies, values, &mut outcomes);
+    let conditions = book.conditions();
+    let filled = visits * conditions;
+    let mut outcomes = Row::new();
+    close_row(book, by, &mut values[filled..filled + conditions]);
+    for past in (0..visits).rev() {
+        let start = past * conditions;
+        let next = start + conditions;
+        let (before, after) = values.split_at_mut(next);
+        let stage = Stage {
+            book,
+            by,
+            visit: past + 1,
+            left: visits - past,
+            later: &after[..conditions],
+        };
+        judge_row(
+            &stage,
+            &mut before[start..],
+            &remedies[start..next],
+            &mut outcomes,
+        );
     }
 }
 

@@ -1,51 +1,34 @@
-ghost use Rattle.std.specs.Prelude.{ℕ, ◌+◌, ◌*◌, ◌<◌, ◌≤◌, length};
+ghost use Rattle.std.specs.Prelude.{◌≡◌, ℕ, ◌<◌, length};
 ghost use Rattle.model.specs.Model.{offers};
-ghost use Rattle.model.specs.Visits.{visit_after, SomeOffered, Open};
+ghost use Rattle.model.specs.Visits.{SomeOffered, Open};
 ghost use Rattle.checks.specs.Acceptance.{InOrder};
-ghost use Rattle.planning.specs.Tables.{Chosen, RowWritten, RowsWritten};
+ghost use Rattle.planning.specs.Tables.{Chosen, AsAsked, RowsWritten};
 ghost use Rattle.planning.specs.Plans.{PlanAnswers, StuckExactly};
 
-use super::best::best;
-use super::rows::{fill_closing, row_after};
+use super::judge::close_row;
+use super::stage::Stage;
 use checks::ready::check_plan;
 use checks::refusal::PlanRefusal;
-use checks::visit::visit_of;
 use criteria::criterion::Criterion;
 use model::Book;
-use model::row::Outcome;
+use model::row::Row;
 
-// Writes the best remedies of a row and their values, from the row of values after it.
-fn fill_row<B: Book, C: Criterion>(
-    book: &B,
-    by: &C,
-    row: usize,
-    left: usize,
+// Writes the best remedies of a visit and their values.
+fn plan_row<B: Book, C: Criterion>(
+    stage: &Stage<B, C>,
     values: &mut [C::Value],
     remedies: &mut [u8],
-    outcomes: &mut [Outcome; 32],
+    row: &mut Row,
 )
-    requires short { row < 48 }
-    requires room { (row + 2) * (B.model book.now).conditions ≤ length values.old }
-    requires place { (row + 1) * (B.model book.now).conditions ≤ length remedies.old }
-    requires offers { (s : ℕ) → s < (B.model book.now).conditions → SomeOffered (offers (B.model book.now)) (visit_after row) s }
-    ensures { RowWritten (C.ops by.now) (B.model book.now) (Chosen (C.ops by.now) (B.model book.now)) row left values.old values.new remedies.old remedies.new }
+    requires values { length values.old ≡ (B.model stage.now.book.now).conditions }
+    requires remedies { length remedies.old ≡ (B.model stage.now.book.now).conditions }
+    requires offers { (s : ℕ) → s < (B.model stage.now.book.now).conditions → SomeOffered (offers (B.model stage.now.book.now)) stage.now.visit s }
+    ensures { let o = C.ops stage.now.by.now in let m = B.model stage.now.book.now in AsAsked o m (Chosen o m) stage.now.visit stage.now.left stage.now.later.now values.new remedies.new }
 {
-    let conditions = book.conditions();
-    let visit = visit_of(row);
-    let start = row * conditions;
-    for condition in 0..conditions {
-        if let Some(pair) = best(
-            book,
-            by,
-            visit,
-            left,
-            condition,
-            row_after(values, row, conditions),
-            outcomes,
-        ) {
-            let (remedy, value) = pair;
-            values[start + condition] = value;
-            remedies[start + condition] = remedy;
+    for condition in 0..stage.book.conditions() {
+        if let Some((remedy, value)) = stage.best(condition, row) {
+            remedies[condition] = remedy;
+            values[condition] = value;
         }
     }
 }
@@ -60,12 +43,29 @@ fn fill<B: Book, C: Criterion>(
 )
     requires order { InOrder (offers (B.model book.now)) visits (length values.old) (length remedies.old) }
     requires offers { Open (offers (B.model book.now)) visits }
-    ensures { RowsWritten (C.ops by.now) (B.model book.now) (Chosen (C.ops by.now) (B.model book.now)) visits values.old values.new remedies.old remedies.new }
+    ensures { RowsWritten (C.ops by.now) (B.model book.now) (Chosen (C.ops by.now) (B.model book.now)) visits 0 values.old values.new remedies.old remedies.new }
 {
-    let mut outcomes = [Outcome::BLANK; 32];
-    fill_closing(book, by, visits, values);
-    for row in (0..visits).rev() {
-        fill_row(book, by, row, visits - row, values, remedies, &mut outcomes);
+    let conditions = book.conditions();
+    let filled = visits * conditions;
+    let mut outcomes = Row::new();
+    close_row(book, by, &mut values[filled..filled + conditions]);
+    for past in (0..visits).rev() {
+        let start = past * conditions;
+        let next = start + conditions;
+        let (before, after) = values.split_at_mut(next);
+        let stage = Stage {
+            book,
+            by,
+            visit: past + 1,
+            left: visits - past,
+            later: &after[..conditions],
+        };
+        plan_row(
+            &stage,
+            &mut before[start..],
+            &mut remedies[start..next],
+            &mut outcomes,
+        );
     }
 }
 

@@ -1,53 +1,35 @@
-use Rattle.std.proofs.Common.{◌≡◌, ℕ, ◌+◌, ◌-◌, ◌*◌, ◌<◌, ◌≤◌, refl, ◌∙◌, subst, mul-le-mul_right, arith}
-use Rattle.model.specs.Visits.{visit_after}
-use Rattle.planning.specs.Tables.{Chosen, Filled}
-use Rattle.planning.proofs.Tables.{filled_none, filled_more, kept_drop}
+use Rattle.std.proofs.Common.{◌≡◌, ℕ, ◌+◌, ◌-◌, ◌*◌, ◌≤◌, length, ap, subst, mul-le-mul_right, arith}
+use Rattle.std.proofs.lemmas.List.{length-take, length-drop}
+use Rattle.planning.specs.Tables.{Chosen, RowsWritten}
+use Rattle.planning.proofs.Tables.{next_row, rows_closed, row_written, row_put}
 use Rattle.planning.proofs.plan.fill.Goals as goal
 
-pub loop-row-init : goal.loop-row-init
-loop-row-init g c =
+pub loop-past-init : goal.loop-past-init
+loop-past-init g c =
     let o = g.C.Criterion.ops c.args.by.now in
     let m = g.B.Book.model c.args.book.now in
-    (filled_none o m (Chosen o m) c.args.visits _ _ c.fill_closing.ensures.closed, refl, refl)
+    let c' = c.conditions-conditions.result in
+    let one = next_row c.args.visits m.conditions in
+    let same : c.args.visits * c' ≡ c.args.visits * m.conditions = ap (λ x. c.args.visits * x) c.conditions-conditions.ensures in
+    let long : length c.close_row.new.values ≡ c' = omega (arith, simp (length-take, length-drop) at c.close_row.auto.values, c.requires.order.values_room) in
+    rows_closed o m (Chosen o m) c.args.visits c' _ _ c.close_row.new.values _ c.conditions-conditions.ensures (omega arith) c.requires.order.values_room long c.close_row.ensures
 
-pub fill_row-requires : goal.fill_row-requires
-fill_row-requires g c =
-    let k : ℕ = c.loop-row.row - 1 in
-    let b : c.loop-row.row ≤ c.args.visits = c.loop-row.auto.row in
-    let n = (g.B.Book.model c.args.book.now).conditions in
-    let up : k + 2 ≤ c.args.visits + 1 = omega arith in
-    let on : k + 1 ≤ c.args.visits = omega arith in
-    record {
-      short = omega (arith, c.requires.order.few);
-      room = omega (arith, mul-le-mul_right n up, c.requires.order.values_room, c.loop-row.auto.values, c.fill_closing.auto.values);
-      place = omega (arith, mul-le-mul_right n on, c.requires.order.remedies_room, c.loop-row.auto.remedies);
-      offers = λ s h. c.requires.offers (visit_after k) s (record { from = omega arith; to = omega arith; condition = h });
-    }
-
-pub loop-row-preserved : goal.loop-row-preserved
-loop-row-preserved g c =
+pub loop-past-preserved : goal.loop-past-preserved
+loop-past-preserved g c =
     let o = g.C.Criterion.ops c.args.by.now in
     let m = g.B.Book.model c.args.book.now in
-    let k : ℕ = c.loop-row.row - 1 in
-    let b : c.loop-row.row ≤ c.args.visits = c.loop-row.auto.row in
-    let back : c.loop-row.row ≡ k + 1 = omega arith in
-    let low : k < c.args.visits = omega arith in
-    let on : k + 1 ≤ c.args.visits = omega arith in
-    let up : k + 1 ≤ c.args.visits + 1 = omega arith in
-    let e = c.fill_row.ensures in (
-      filled_more o m (Chosen o m) c.args.visits k c.loop-row.values _ c.loop-row.remedies _ low e.filled e.values e.remedies
-          (subst (λ x. Filled o m (Chosen o m) c.args.visits x c.loop-row.values c.loop-row.remedies) back c.loop-row.invariant.0),
-      kept_drop ((k + 1) * m.conditions) _ _ _ (mul-le-mul_right m.conditions up) e.values ∙ c.loop-row.invariant.1,
-      kept_drop ((k + 1) * m.conditions) _ _ _ (mul-le-mul_right m.conditions on) e.remedies ∙ c.loop-row.invariant.2,
-    )
-
-pub returns : goal.returns
-returns g c =
-    let o = g.C.Criterion.ops c.args.by.now in
-    let m = g.B.Book.model c.args.book.now in
-    let zero_row : c.loop-row.row ≡ 0 = omega arith in
-    record {
-      filled = subst (λ x. Filled o m (Chosen o m) c.args.visits x c.loop-row.values c.loop-row.remedies) zero_row c.loop-row.invariant.0;
-      values = c.loop-row.invariant.1 ∙ c.fill_closing.ensures.values;
-      remedies = c.loop-row.invariant.2;
-    }
+    let c' = c.conditions-conditions.result in
+    let n : ℕ = c.loop-past.past - 1 in
+    let back : c.loop-past.past ≡ n + 1 = omega arith in
+    let on : n + 1 ≤ c.args.visits = omega (arith, c.loop-past.auto.past) in
+    let one = next_row n m.conditions in
+    let same : n * c' ≡ n * m.conditions = ap (λ x. n * x) c.conditions-conditions.ensures in
+    let room : (n + 1) * m.conditions ≤ length c.loop-past.remedies = omega (arith, mul-le-mul_right m.conditions on, c.requires.order.remedies_room, c.loop-past.auto.remedies) in
+    let split = c.split_at_mut-before in
+    let front : length split.result.0.now ≡ n * c' + c' = split.ensures.front_len in
+    let long : length c.plan_row.new.values ≡ c' = omega (arith, simp (length-take, length-drop) at c.plan_row.auto.values) in
+    let long_r : length c.plan_row.new.remedies ≡ c' = omega (arith, simp (length-take, length-drop) at c.plan_row.auto.remedies) in
+    row_written o m (Chosen o m) c.args.visits n c' _ _ c.loop-past.values split.result.0.now split.result.1.now c.plan_row.new.values _ c.loop-past.remedies c.plan_row.new.remedies _ (omega arith) c.conditions-conditions.ensures (omega arith) front split.ensures.back long
+    (row_put n m.conditions c' _ c.loop-past.remedies c.plan_row.new.remedies c.conditions-conditions.ensures (omega arith) room long_r)
+    c.plan_row.ensures
+    (subst (λ x. RowsWritten o m (Chosen o m) c.args.visits x c.args.values.now c.loop-past.values c.args.remedies.now c.loop-past.remedies) back c.loop-past.invariant)

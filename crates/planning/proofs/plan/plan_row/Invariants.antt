@@ -1,0 +1,10 @@
+use Rattle.std.proofs.Common.{ℕ, ◌<◌, get_or}
+use Rattle.planning.specs.Choosing.{Best}
+use Rattle.planning.specs.Tables.{at}
+use Rattle.planning.proofs.plan.plan_row.Given as goal
+
+abbrev pub invariant-loop-condition : goal.invariant-loop-condition
+invariant-loop-condition g l =
+    let o = g.C.Criterion.ops l.stage.by.now in
+    let m = g.B.Book.model l.stage.book.now in
+    (s : ℕ) → s < l.condition → Best o m l.stage.visit l.stage.left s (at o l.stage.later.now) m.remedies (get_or l.remedies s 0) (at o l.values s)

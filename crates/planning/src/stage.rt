@@ -1,0 +1,74 @@
+ghost use Rattle.std.specs.Prelude.{◌≡◌, length, MatchOption};
+ghost use Rattle.criteria.specs.Policies.{entered, remedied};
+ghost use Rattle.planning.specs.Choosing.{Best, NoneBelow, kept_of};
+ghost use Rattle.planning.specs.Tables.{at};
+
+use criteria::criterion::Criterion;
+use model::Book;
+use model::row::Row;
+
+// A visit, how many are left with it, and the values of the conditions that follow it.
+#[derive(Drop)]
+pub(crate) struct Stage<'a, 'v, B: Book, C: Criterion> {
+    pub(crate) book: &'a B,
+    pub(crate) by: &'a C,
+    pub(crate) visit: usize,
+    pub(crate) left: usize,
+    pub(crate) later: &'v [C::Value],
+    ghost whole: { length later.now ≡ (B.model book.now).conditions },
+}
+
+// Of the pair found so far and one more: the one found, unless it is less good.
+fn preferred<C: Criterion>(
+    by: &C,
+    found: Option<(u8, C::Value)>,
+    remedy: u8,
+    value: C::Value,
+) -> (u8, C::Value)
+    ensures { result ≡ kept_of (C.ops by.now) found (remedy, value) }
+{
+    match found {
+        Some((held, top)) if by.good(top, value) => (held, top),
+        _ => (remedy, value),
+    }
+}
+
+impl<B: Book, C: Criterion> Stage<'_, '_, B, C> {
+    // The account of all outcomes of a remedy; `row` is room for them.
+    fn account(&self, condition: usize, remedy: usize, row: &mut Row) -> C::Account
+        ensures { result ≡ entered (C.ops self.now.by.now) (B.model self.now.book.now) self.now.visit self.now.left condition remedy (at (C.ops self.now.by.now) self.now.later.now) (B.model self.now.book.now).conditions }
+    {
+        self.book.row(self.visit, condition, remedy, row);
+        let parts = self.book.parts();
+        let later = self.later;
+        let mut sum = self.by.blank();
+        for outcome in row.as_slice() {
+            let value = later[outcome.next];
+            sum = self.by.enter(self.left, parts, outcome.share, outcome.amount, value, sum);
+        }
+        sum
+    }
+
+    // The value of giving a remedy.
+    pub(crate) fn value_under(&self, condition: usize, remedy: usize, row: &mut Row) -> C::Value
+        ensures { result ≡ remedied (C.ops self.now.by.now) (B.model self.now.book.now) self.now.visit self.now.left condition remedy (at (C.ops self.now.by.now) self.now.later.now) }
+    {
+        let sum = self.account(condition, remedy, row);
+        self.by.close(self.book.parts(), sum)
+    }
+
+    // The best of the offered remedies and its value; of equally good ones the first.
+    pub(crate) fn best(&self, condition: usize, row: &mut Row) -> Option<(u8, C::Value)>
+        ensures { let o = C.ops self.now.by.now in let m = B.model self.now.book.now in
+            MatchOption result (NoneBelow m self.now.visit condition m.remedies) (λ p. Best o m self.now.visit self.now.left condition (at o self.now.later.now) m.remedies p.0 p.1) }
+    {
+        let mut found = None;
+        for remedy in 0..self.book.remedies() {
+            if self.book.offered(self.visit, condition, remedy) {
+                let value = self.value_under(condition, remedy, row);
+                found = Some(preferred(self.by, found, remedy as u8, value));
+            }
+        }
+        found
+    }
+}
