@@ -86,17 +86,7 @@ module _ {V A : Type 0} (o : Ops V A) (m : Model) (E : Entry V) where
   asked_moved visit left later later' vs vs' rs rs' p q r h =
       subst (λ x. AsAsked o m E visit left x vs' rs') (sym p) (subst (λ x. AsAsked o m E visit left later x rs') (sym q) (subst (λ x. AsAsked o m E visit left later vs x) (sym r) h))
 
-  rows_none : (H : ℕ) (vs row vs' : List V) (rs : List ℕ) → Replaced H m.conditions vs row vs' → Closed o m row → RowsWritten o m E H H vs vs' rs rs
-  rows_none H vs row vs' rs put h = record {
-    filled = record { closed = subst (Closed o m) (sym (row_is H m.conditions vs row vs' put)) h; rows = λ n a b. absurd (never n a b) };
-    values = rest_is H m.conditions vs row vs' put;
-    remedies = refl;
-  }
-    where
-      never : (n : ℕ) → H ≤ n → n < H → ⊥
-      never n a b = omega arith
-
-  rows_more : (H n visit : ℕ) (later es vs row vs' : List V) (er rs names rs' : List ℕ) → n < H → visit ≡ n + 1 → later ≡ row_of m vs (n + 1) →
+  rows_more : (H n visit : ℕ) (later es vs row vs' : List V) (er rs names rs' : List ℕ) → n < H → visit ≡ visit_after n → later ≡ row_of m vs (n + 1) →
       Replaced n m.conditions vs row vs' → Replaced n m.conditions rs names rs' → AsAsked o m E visit (H - n) later row names →
       RowsWritten o m E H (n + 1) es vs er rs → RowsWritten o m E H n es vs' er rs'
   rows_more H n visit later es vs row vs' er rs names rs' below e f put_v put_r asked w = record {
@@ -124,19 +114,28 @@ module _ {V A : Type 0} (o : Ops V A) (m : Model) (E : Entry V) where
       rows' k h y = ⊎_elim
           (λ e'. subst (λ x. AsAsked o m E (visit_after x) (H - x) (row_of m vs' (x + 1)) (row_of m vs' x) (row_of m rs' x)) e'
           (asked_moved (visit_after n) (H - n) later _ row _ names _ (row_same (n + 1) (omega arith) ∙ sym f) (row_is n m.conditions vs row vs' put_v) (row_is n m.conditions rs names rs' put_r)
-          (subst (λ x. AsAsked o m E x (H - n) later row names) (let z : visit ≡ visit_after n = omega arith in z) asked)))
+          (subst (λ x. AsAsked o m E x (H - n) later row names) e asked)))
           (λ z. asked_moved (visit_after k) (H - k) _ _ _ _ _ _ (row_same (k + 1) (omega arith)) (row_same k z) (ap (take m.conditions) (kept_drop _ _ rs' rs (far k z) kr)) (w.filled.rows k (omega arith) y))
           (eq-or-lt_of_le h)
 
   -- before any row: the closing values are written
   pub rows_closed : (H c' k : ℕ) (vs row : List V) (rs : List ℕ) → c' ≡ m.conditions → k ≡ c' → (H + 1) * m.conditions ≤ length vs → length row ≡ c' → Closed o m row →
       RowsWritten o m E H H vs (put_mid (H * c') k vs row) rs rs
-  rows_closed H c' k vs row rs e f room long h = rows_none H vs row _ rs (row_put H m.conditions c' k vs row e f room long) h
+  rows_closed H c' k vs row rs e f room long h =
+      let put = row_put H m.conditions c' k vs row e f room long in
+      record {
+        filled = record { closed = subst (Closed o m) (sym (row_is H m.conditions vs row _ put)) h; rows = λ n a b. absurd (never n a b) };
+        values = rest_is H m.conditions vs row _ put;
+        remedies = refl;
+      }
+    where
+      never : (n : ℕ) → H ≤ n → n < H → ⊥
+      never n a b = omega arith
 
   -- one row more, from the back: the last of the front of the table of values
-  pub row_written : (H n c' k : ℕ) (es vs front back row : List V) (er rs names rs' : List ℕ) → n < H → c' ≡ m.conditions → k ≡ c' → length front ≡ n * c' + c' → back ≡ drop (n * c' + c') vs → length row ≡ c' →
-      Replaced n m.conditions rs names rs' → AsAsked o m E (n + 1) (H - n) (take c' back) row names →
+  pub row_written : (H n visit c' k : ℕ) (es vs front back row : List V) (er rs names rs' : List ℕ) → n < H → visit ≡ visit_after n → c' ≡ m.conditions → k ≡ c' → length front ≡ n * c' + c' → back ≡ drop (n * c' + c') vs → length row ≡ c' →
+      Replaced n m.conditions rs names rs' → AsAsked o m E visit (H - n) (take c' back) row names →
       RowsWritten o m E H (n + 1) es vs er rs → RowsWritten o m E H n es (put_mid (n * c') k front row ++ back) er rs'
-  row_written H n c' k es vs front back row er rs names rs' below e f whole rest long put asked w =
+  row_written H n visit c' k es vs front back row er rs names rs' below here e f whole rest long put asked w =
       let later : take c' back ≡ row_of m vs (n + 1) = ap (take c') rest ∙ ap (λ x. take x (drop (n * x + x) vs)) e ∙ ap (λ i. take m.conditions (drop i vs)) (sym (next_row n m.conditions)) in
-      rows_more H n (n + 1) (take c' back) es vs row _ er rs names rs' below refl later (last_put n m.conditions c' k vs front back row e f whole rest long) put asked w
+      rows_more H n visit (take c' back) es vs row _ er rs names rs' below here later (last_put n m.conditions c' k vs front back row e f whole rest long) put asked w

@@ -1,41 +1,17 @@
-ghost use Rattle.std.specs.Prelude.{◌≡◌, length};
+ghost use Rattle.std.specs.Prelude.{length};
 ghost use Rattle.model.specs.Model.{offers};
 ghost use Rattle.checks.specs.Acceptance.{InOrder};
-ghost use Rattle.planning.specs.Tables.{Closed, Valued, AsAsked, RowsWritten};
+ghost use Rattle.planning.specs.Tables.{Valued, RowsWritten};
 ghost use Rattle.planning.specs.Judgements.{JudgeAnswers};
 
+use super::rows::close_row;
 use super::stage::Stage;
 use checks::ready::check_judgement;
 use checks::refusal::PlanRefusal;
+use checks::visit::visit_of;
 use criteria::criterion::Criterion;
 use model::Book;
 use model::row::Row;
-
-// Writes the closing values.
-pub(crate) fn close_row<B: Book, C: Criterion>(book: &B, by: &C, values: &mut [C::Value])
-    requires { length values.old ≡ (B.model book.now).conditions }
-    ensures { Closed (C.ops by.now) (B.model book.now) values.new }
-{
-    for (condition, value) in values.iter_mut().enumerate() {
-        *value = by.closing(book.worth(condition));
-    }
-}
-
-// Writes the values of the remedies of a visit.
-fn judge_row<B: Book, C: Criterion>(
-    stage: &Stage<B, C>,
-    values: &mut [C::Value],
-    remedies: &[u8],
-    row: &mut Row,
-)
-    requires values { length values.old ≡ (B.model stage.now.book.now).conditions }
-    requires remedies { length remedies.now ≡ (B.model stage.now.book.now).conditions }
-    ensures { let o = C.ops stage.now.by.now in let m = B.model stage.now.book.now in AsAsked o m (Valued o m) stage.now.visit stage.now.left stage.now.later.now values.new remedies.now }
-{
-    for (condition, value) in values.iter_mut().enumerate() {
-        *value = stage.value_under(condition, usize::from(remedies[condition]), row);
-    }
-}
 
 // Fills the table of values of a table of remedies, the last visit first.
 fn fill_values<B: Book, C: Criterion>(
@@ -59,16 +35,11 @@ fn fill_values<B: Book, C: Criterion>(
         let stage = Stage {
             book,
             by,
-            visit: past + 1,
+            visit: visit_of(past),
             left: visits - past,
             later: &after[..conditions],
         };
-        judge_row(
-            &stage,
-            &mut before[start..],
-            &remedies[start..next],
-            &mut outcomes,
-        );
+        stage.judge_row(&mut before[start..], &remedies[start..next], &mut outcomes);
     }
 }
 

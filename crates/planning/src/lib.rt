@@ -4,6 +4,7 @@
 pub mod judge;
 pub mod laws;
 pub mod plan;
+mod rows;
 mod stage;
 
 pub use checks::refusal::PlanRefusal;

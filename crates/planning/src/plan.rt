@@ -1,37 +1,18 @@
-ghost use Rattle.std.specs.Prelude.{◌≡◌, ℕ, ◌<◌, length};
+ghost use Rattle.std.specs.Prelude.{length};
 ghost use Rattle.model.specs.Model.{offers};
-ghost use Rattle.model.specs.Visits.{SomeOffered, Open};
+ghost use Rattle.model.specs.Visits.{Open};
 ghost use Rattle.checks.specs.Acceptance.{InOrder};
-ghost use Rattle.planning.specs.Tables.{Chosen, AsAsked, RowsWritten};
+ghost use Rattle.planning.specs.Tables.{Chosen, RowsWritten};
 ghost use Rattle.planning.specs.Plans.{PlanAnswers, StuckExactly};
 
-use super::judge::close_row;
+use super::rows::close_row;
 use super::stage::Stage;
 use checks::ready::check_plan;
 use checks::refusal::PlanRefusal;
+use checks::visit::visit_of;
 use criteria::criterion::Criterion;
 use model::Book;
 use model::row::Row;
-
-// Writes the best remedies of a visit and their values.
-fn plan_row<B: Book, C: Criterion>(
-    stage: &Stage<B, C>,
-    values: &mut [C::Value],
-    remedies: &mut [u8],
-    row: &mut Row,
-)
-    requires values { length values.old ≡ (B.model stage.now.book.now).conditions }
-    requires remedies { length remedies.old ≡ (B.model stage.now.book.now).conditions }
-    requires offers { (s : ℕ) → s < (B.model stage.now.book.now).conditions → SomeOffered (offers (B.model stage.now.book.now)) stage.now.visit s }
-    ensures { let o = C.ops stage.now.by.now in let m = B.model stage.now.book.now in AsAsked o m (Chosen o m) stage.now.visit stage.now.left stage.now.later.now values.new remedies.new }
-{
-    for condition in 0..stage.book.conditions() {
-        if let Some((remedy, value)) = stage.best(condition, row) {
-            remedies[condition] = remedy;
-            values[condition] = value;
-        }
-    }
-}
 
 // Fills both tables, the last visit first.
 fn fill<B: Book, C: Criterion>(
@@ -56,12 +37,11 @@ fn fill<B: Book, C: Criterion>(
         let stage = Stage {
             book,
             by,
-            visit: past + 1,
+            visit: visit_of(past),
             left: visits - past,
             later: &after[..conditions],
         };
-        plan_row(
-            &stage,
+        stage.plan_row(
             &mut before[start..],
             &mut remedies[start..next],
             &mut outcomes,

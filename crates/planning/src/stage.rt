@@ -1,7 +1,9 @@
-ghost use Rattle.std.specs.Prelude.{◌≡◌, length, MatchOption};
+ghost use Rattle.std.specs.Prelude.{◌≡◌, ℕ, ◌<◌, length, MatchOption};
+ghost use Rattle.model.specs.Model.{offers};
+ghost use Rattle.model.specs.Visits.{SomeOffered};
 ghost use Rattle.criteria.specs.Policies.{entered, remedied};
 ghost use Rattle.planning.specs.Choosing.{Best, NoneBelow, kept_of};
-ghost use Rattle.planning.specs.Tables.{at};
+ghost use Rattle.planning.specs.Tables.{at, Chosen, Valued, AsAsked};
 
 use criteria::criterion::Criterion;
 use model::Book;
@@ -42,6 +44,7 @@ impl<B: Book, C: Criterion> Stage<'_, '_, B, C> {
         let parts = self.book.parts();
         let later = self.later;
         let mut sum = self.by.blank();
+        // a loop: that `next` is a condition holds of these outcomes, and a closure would be asked it of any
         for outcome in row.as_slice() {
             let value = later[outcome.next];
             sum = self.by.enter(self.left, parts, outcome.share, outcome.amount, value, sum);
@@ -50,7 +53,7 @@ impl<B: Book, C: Criterion> Stage<'_, '_, B, C> {
     }
 
     // The value of giving a remedy.
-    pub(crate) fn value_under(&self, condition: usize, remedy: usize, row: &mut Row) -> C::Value
+    fn value_under(&self, condition: usize, remedy: usize, row: &mut Row) -> C::Value
         ensures { result ≡ remedied (C.ops self.now.by.now) (B.model self.now.book.now) self.now.visit self.now.left condition remedy (at (C.ops self.now.by.now) self.now.later.now) }
     {
         let sum = self.account(condition, remedy, row);
@@ -58,7 +61,7 @@ impl<B: Book, C: Criterion> Stage<'_, '_, B, C> {
     }
 
     // The best of the offered remedies and its value; of equally good ones the first.
-    pub(crate) fn best(&self, condition: usize, row: &mut Row) -> Option<(u8, C::Value)>
+    fn best(&self, condition: usize, row: &mut Row) -> Option<(u8, C::Value)>
         ensures { let o = C.ops self.now.by.now in let m = B.model self.now.book.now in
             MatchOption result (NoneBelow m self.now.visit condition m.remedies) (λ p. Best o m self.now.visit self.now.left condition (at o self.now.later.now) m.remedies p.0 p.1) }
     {
@@ -70,5 +73,32 @@ impl<B: Book, C: Criterion> Stage<'_, '_, B, C> {
             }
         }
         found
+    }
+
+    // Writes the best remedies of the visit, one for each condition, and their values.
+    pub(crate) fn plan_row(&self, values: &mut [C::Value], remedies: &mut [u8], row: &mut Row)
+        requires values { length values.old ≡ (B.model self.now.book.now).conditions }
+        requires remedies { length remedies.old ≡ (B.model self.now.book.now).conditions }
+        requires offers { (s : ℕ) → s < (B.model self.now.book.now).conditions → SomeOffered (offers (B.model self.now.book.now)) self.now.visit s }
+        ensures { let o = C.ops self.now.by.now in let m = B.model self.now.book.now in AsAsked o m (Chosen o m) self.now.visit self.now.left self.now.later.now values.new remedies.new }
+    {
+        // by index: of a `zip` over `iter_mut` the check does not know what was written
+        for condition in 0..self.book.conditions() {
+            if let Some((remedy, value)) = self.best(condition, row) {
+                remedies[condition] = remedy;
+                values[condition] = value;
+            }
+        }
+    }
+
+    // Writes the values of the remedies that are given at the visit.
+    pub(crate) fn judge_row(&self, values: &mut [C::Value], remedies: &[u8], row: &mut Row)
+        requires values { length values.old ≡ (B.model self.now.book.now).conditions }
+        requires remedies { length remedies.now ≡ (B.model self.now.book.now).conditions }
+        ensures { let o = C.ops self.now.by.now in let m = B.model self.now.book.now in AsAsked o m (Valued o m) self.now.visit self.now.left self.now.later.now values.new remedies.now }
+    {
+        for (condition, value) in values.iter_mut().enumerate() {
+            *value = self.value_under(condition, usize::from(remedies[condition]), row);
+        }
     }
 }

@@ -1,5 +1,6 @@
 use Rattle.std.proofs.Common.{◌≡◌, ℕ, ◌+◌, ◌-◌, ◌*◌, ◌≤◌, length, ap, subst, mul-le-mul_right, arith}
 use Rattle.std.proofs.lemmas.List.{length-take, length-drop}
+use Rattle.model.specs.Visits.{visit_after}
 use Rattle.planning.specs.Tables.{Chosen, RowsWritten}
 use Rattle.planning.proofs.Tables.{next_row, rows_closed, row_written, row_put}
 use Rattle.planning.proofs.plan.fill.Goals as goal
@@ -25,11 +26,12 @@ loop-past-preserved g c =
     let one = next_row n m.conditions in
     let same : n * c' ≡ n * m.conditions = ap (λ x. n * x) c.conditions-conditions.ensures in
     let room : (n + 1) * m.conditions ≤ length c.loop-past.remedies = omega (arith, mul-le-mul_right m.conditions on, c.requires.order.remedies_room, c.loop-past.auto.remedies) in
+    let here : c.visit_of.result ≡ visit_after n = omega (arith, c.visit_of.ensures, c.requires.order.few) in
     let split = c.split_at_mut-before in
     let front : length split.result.0.now ≡ n * c' + c' = split.ensures.front_len in
     let long : length c.plan_row.new.values ≡ c' = omega (arith, simp (length-take, length-drop) at c.plan_row.auto.values) in
     let long_r : length c.plan_row.new.remedies ≡ c' = omega (arith, simp (length-take, length-drop) at c.plan_row.auto.remedies) in
-    row_written o m (Chosen o m) c.args.visits n c' _ _ c.loop-past.values split.result.0.now split.result.1.now c.plan_row.new.values _ c.loop-past.remedies c.plan_row.new.remedies _ (omega arith) c.conditions-conditions.ensures (omega arith) front split.ensures.back long
+    row_written o m (Chosen o m) c.args.visits n _ c' _ _ c.loop-past.values split.result.0.now split.result.1.now c.plan_row.new.values _ c.loop-past.remedies c.plan_row.new.remedies _ (omega arith) here c.conditions-conditions.ensures (omega arith) front split.ensures.back long
     (row_put n m.conditions c' _ c.loop-past.remedies c.plan_row.new.remedies c.conditions-conditions.ensures (omega arith) room long_r)
     c.plan_row.ensures
     (subst (λ x. RowsWritten o m (Chosen o m) c.args.visits x c.args.values.now c.loop-past.values c.args.remedies.now c.loop-past.remedies) back c.loop-past.invariant)

@@ -1,12 +1,12 @@
-use Rattle.std.proofs.Common.{◌≡◌, ◌<◌, length, set, arith, rules}
-use Rattle.planning.specs.Tables.{at, Chosen}
+use Rattle.std.proofs.Common.{◌≡◌, ◌<◌, set, arith, rules}
+use Rattle.planning.specs.Tables.{Chosen}
 use Rattle.planning.proofs.Tables.{entries_more}
-use Rattle.planning.proofs.plan.plan_row.Goals as goal
-use Rattle.planning.proofs.plan.plan_row.Goals.{in-Some, in_default}
+use Rattle.planning.proofs.stage.Stage.plan_row.Goals as goal
+use Rattle.planning.proofs.stage.Stage.plan_row.Goals.{in-Some, in_default}
 
 pub loop-condition-preserved : goal.loop-condition-preserved
 loop-condition-preserved g c =
-    let stage = c.args.stage.now in
+    let stage = c.args.self.now in
     let o = g.C.Criterion.ops stage.by.now in
     let m = g.B.Book.model stage.book.now in
     let s = c.loop-condition.condition in
