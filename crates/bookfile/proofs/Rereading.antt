@@ -4,7 +4,7 @@ use lib.ListN.{get_or-append}
 use lib.Seq.{get_or-append_seam}
 use Rattle.std.proofs.lemmas.Bool.{eq-eqb, cond_both, cond-true, le-leb, lt-ltb, lt-leb}
 use Rattle.books.specs.declared.record.Record.{Record}
-use Rattle.books.specs.Alike.{Sizes}
+use Rattle.books.specs.Alike.{SizesFit}
 use Rattle.books.specs.Entries.{SmallMoney, AllSmall, RecordFits, Rising, no_record}
 use Rattle.books.specs.Making.{Entered}
 use Rattle.fields.specs.Numerals.{Bytes}
@@ -45,7 +45,7 @@ module _ (m w : ℕ) where
   unfolding All
   step s s' k l fs rest d ds h = ap (read_on m w s k) (append_assoc (joined 9 (l ∷ []) fs) (10 ∷ []) rest) ∙ (read_on_line s k (joined 9 (l ∷ []) fs) rest (joined_all (λ x. ¬ (x ≡ 10)) 9 (l ∷ []) fs (λ q. omega arith) ((λ q. omega arith), tt) (each_map Dark (λ x. ¬ (x ≡ 10)) (λ x g q. omega arith) fs ds)) ∙ ap (λ x. and_then x (λ t. read_on m w t (suc k) rest)) h)
 
-  read_first : (c r p k : ℕ) → Sizes c r p → read_line m w begin k (joined 9 (66 ∷ []) (size_fields (book c r p [] []))) ≡ good (middle (book c r p [] []))
+  read_first : (c r p k : ℕ) → SizesFit c r p → read_line m w begin k (joined 9 (66 ∷ []) (size_fields (book c r p [] []))) ≡ good (middle (book c r p [] []))
   read_first c r p k s = ap (λ x. and_then x (enter_line m w begin k)) (line_good k 66 (may_stand begin) (form begin) (size_fields (book c r p [] [])) (pos c ∷ pos r ∷ pos p ∷ []) (lit≤ tt) (size_dark (book c r p [] [])) refl refl (one (check_number k 2 1 32 c s.some_condition s.few_conditions) (one (check_number k 3 1 8 r s.some_remedy s.few_remedies) (one (check_number k 4 1 1000 p s.some_parts s.few_parts) none))))
 
   module _ (c r p : ℕ) (some : 1 ≤ c) where

@@ -4,7 +4,7 @@ use lib.ListN.{get_or-append}
 use lib.Seq.{get_or_at}
 use Rattle.std.proofs.lemmas.Bool.{ltb-true, eqb-true, eq-eqb, lt-ltb, and_parts, and_from, or_left, or_right, or_cases, cases_eq, cases_lt}
 use Rattle.books.specs.declared.record.Record.{Record}
-use Rattle.books.specs.Alike.{Sizes}
+use Rattle.books.specs.Alike.{SizesFit}
 use Rattle.books.specs.Entries.{SmallMoney, AllSmall, RecordFits, Rising, no_record}
 use Rattle.books.specs.Making.{Entered, InTable, ListEntryFits}
 use Rattle.bookfile.specs.File.{WrittenBook}
@@ -13,7 +13,7 @@ use Rattle.bookfile.specs.Reading.{rises, rises_after, plus_record, plus_worth}
 
 -- every record and worth that stands keeps its limits
 pub record SoundBook (b : WrittenBook) : Type 0 where
-  pub sizes : Sizes b.conditions b.remedies b.parts
+  pub sizes : SizesFit b.conditions b.remedies b.parts
   pub entries : (i : ℕ) → i < length b.records → Entered b.conditions b.remedies b.parts b.records i
   pub smalls : AllSmall b.worths
   pub few : length b.worths ≤ b.conditions
