@@ -1,8 +1,8 @@
 -- Reading unfolds by one line, as the code reads one.
-use Rattle.std.proofs.Common.{◌≡◌, ℕ, suc, ◌+◌, ◌<◌, ◌≤◌, Bool, true, false, eqb, ltb, ◌⊎◌, List, [], ◌∷◌, ◌++◌, length, get_or, ℤ, IfOk, Ok, Err, Result, sym, refl, ap, ◌∙◌, subst, inl, inr, ⊎_elim, arith, length-append, MatchResult}
+use Rattle.std.proofs.Common.{◌≡◌, ℕ, suc, ◌<◌, ◌≤◌, Bool, true, false, ltb, ◌⊎◌, List, [], ◌∷◌, ◌++◌, length, get_or, ℤ, Ok, Err, Result, sym, refl, ap, ◌∙◌, subst, inl, inr, ⊎_elim, arith, length-append, MatchResult}
 use lib.ListN.{get_or-append}
 use lib.Seq.{get_or_at}
-use Rattle.std.proofs.lemmas.Bool.{lt-ltb, le-ltb, eq-eqb, ne_eqb, cond-true, cond-false, cases_lt, cases_eq}
+use Rattle.std.proofs.lemmas.Bool.{lt-ltb, le-ltb, cond-true, cond-false, cases_lt}
 use Rattle.books.specs.declared.record.Record.{Record}
 use Rattle.books.specs.Entries.{Rising, no_record, key}
 use Rattle.fields.specs.declared.faults.LineFault.{LineFault}
@@ -11,16 +11,17 @@ use Rattle.fields.specs.Lines.{split}
 use Rattle.fields.specs.Checking.{Reported, reported, and_then, check_line}
 use Rattle.fields.specs.Checking.Checked.{good, faulty}
 use Rattle.fields.specs.Views.{LineCut, NoLine}
-use Rattle.bookfile.specs.File.{WrittenBook, State, may_stand, form, next_letters, next_form}
+use Rattle.bookfile.specs.File.{WrittenBook, State, may_stand, form}
 use Rattle.bookfile.specs.File.State.{begin, middle}
-use Rattle.bookfile.specs.Reading.{rises_after, enter_record, enter_worth, enter_line, read_line, read_lines, read_on}
-use Rattle.bookfile.specs.declared.entries.Sizes.{Sizes}
+use Rattle.bookfile.specs.Reading.{rises_after, plus_record, enter_record, enter_line, read_line, read_lines, read_on}
+use Rattle.books.specs.declared.sizes.Sizes.{Sizes}
 use Rattle.bookfile.specs.declared.entries.Entry.{Entry}
-use Rattle.bookfile.specs.Entered.{entry_values, EntryRead}
-use Rattle.bookfile.specs.declared.entries.Entry.TheVariants.{Outcome, Worth, End}
+use Rattle.bookfile.specs.declared.progress.Progress.{Progress}
+use Rattle.bookfile.specs.Entries.{FitsSizes, FitsEntry, least_after}
+use Rattle.bookfile.specs.declared.entries.Entry.TheVariants.{Outcome}
 use Rattle.bookfile.specs.declared.faults.FileFault.{FileFault}
 use Rattle.bookfile.specs.Faults.{reported_file}
-use Rattle.bookfile.specs.Advance.{least_key, so_far, PlacedWell, Tells, EntryNext, NotEntered, EntryEntered, EntryStopped}
+use Rattle.bookfile.specs.Advance.{least_key, so_far, line_of, PlacedWell, PlusRecord, NotEntered, EntryEntered, EntryStopped}
 use Rattle.bookfile.proofs.Standing.{AboveLast, above_last, last_below}
 
 module _ (m w : ℕ) where
@@ -75,84 +76,56 @@ least_more es e =
     let n : length (es ++ (e ∷ [])) ≡ suc (length es) = simp length-append (omega arith) in
     least_last (es ++ (e ∷ [])) (length es) (sym n) ∙ ap (λ d. suc (key d)) (get_or_at es e [] no_record (length es) refl)
 
-module _ (m w c r p : ℕ) (es : List Record) (ws : List ℤ) (k : ℕ) where
-  -- an R line: out of order, without room, entered
-  pub record_late : (least : ℕ) (e : Record) → least ≡ least_key es → AllPlacedWell es → PlacedWell e → key e < least → enter_record m w (so_far c r p es ws) k e ≡ faulty (reported 24 k 0)
-  record_late least e q all u h = cond-false (rises_after es e) _ _ (not_so (rises_after es e) (λ up. let d = due_key es e all u (last_below es e up) in omega arith))
-    where
-      not_so : (t : Bool) → ¬ (t ≡ true) → t ≡ false
-      not_so true n = absurd (n refl)
-      not_so false n = refl
+not_so : (t : Bool) → ¬ (t ≡ true) → t ≡ false
+not_so true n = absurd (n refl)
+not_so false n = refl
 
-  pub record_full : (least count : ℕ) (e : Record) → least ≡ least_key es → count ≡ length es → AllPlacedWell es → PlacedWell e → least ≤ key e → m ≤ count → enter_record m w (so_far c r p es ws) k e ≡ faulty (reported 25 k 0)
-  record_full least count e q n all u h full = cond-true (rises_after es e) _ _ (above_last es e (key_due es e all u (omega arith))) ∙ cond-false (ltb (length es) m) _ _ (le-ltb (length es) m (omega arith))
+-- an R line: out of order, without room, entered
+module _ (m w : ℕ) (b : WrittenBook) (k : ℕ) (e : Record) (all : AllPlacedWell b.records) (u : PlacedWell e) where
+  record_late : key e < least_key b.records → enter_record m w b k e ≡ faulty (reported 24 k 0)
+  record_late late = cond-false (rises_after b.records e) _ _ (not_so (rises_after b.records e) (λ up. let d = due_key b.records e all u (last_below b.records e up) in omega arith))
 
-  pub record_entered : (least count : ℕ) (e : Record) → least ≡ least_key es → count ≡ length es → AllPlacedWell es → PlacedWell e → least ≤ key e → count < m → enter_record m w (so_far c r p es ws) k e ≡ good (middle (so_far c r p (es ++ (e ∷ [])) ws))
-  record_entered least count e q n all u h free = cond-true (rises_after es e) _ _ (above_last es e (key_due es e all u (omega arith))) ∙ cond-true (ltb (length es) m) _ _ (lt-ltb (length es) m (omega arith))
+  record_full : least_key b.records ≤ key e → m ≤ length b.records → enter_record m w b k e ≡ faulty (reported 25 k 0)
+  record_full due full = cond-true (rises_after b.records e) _ _ (above_last b.records e (key_due b.records e all u due)) ∙ cond-false (ltb (length b.records) m) _ _ (le-ltb (length b.records) m full)
 
-  -- a C line, likewise
-  pub worth_late : (known s : ℕ) (z : ℤ) → known ≡ length ws → ¬ (s ≡ known) → enter_worth m w (so_far c r p es ws) k s z ≡ faulty (reported 24 k 0)
-  worth_late known s z q n = cond-false (eqb s (length ws)) _ _ (ne_eqb s (length ws) (λ e. n (e ∙ sym q)))
+  record_entered : least_key b.records ≤ key e → length b.records < m → enter_record m w b k e ≡ good (middle (plus_record b e))
+  record_entered due free = cond-true (rises_after b.records e) _ _ (above_last b.records e (key_due b.records e all u due)) ∙ cond-true (ltb (length b.records) m) _ _ (lt-ltb (length b.records) m free)
 
-  pub worth_full : (known s : ℕ) (z : ℤ) → known ≡ length ws → s ≡ known → w ≤ known → enter_worth m w (so_far c r p es ws) k s z ≡ faulty (reported 25 k 0)
-  worth_full known s z q e full = cond-true (eqb s (length ws)) _ _ (eq-eqb s (length ws) (e ∙ q)) ∙ cond-false (ltb (length ws) w) _ _ (le-ltb (length ws) w (omega arith))
-
-  pub worth_entered : (known s : ℕ) (z : ℤ) → known ≡ length ws → s ≡ known → known < w → enter_worth m w (so_far c r p es ws) k s z ≡ good (middle (so_far c r p es (ws ++ (z ∷ []))))
-  worth_entered known s z q e free = cond-true (eqb s (length ws)) _ _ (eq-eqb s (length ws) (e ∙ q)) ∙ cond-true (ltb (length ws) w) _ _ (lt-ltb (length ws) w (omega arith))
-
--- the numbers after one record more, and after one worth more
 placed_more : (es : List Record) (e : Record) → AllPlacedWell es → PlacedWell e → (i : ℕ) → (i < length es) ⊎ (length es ≤ i) → i < suc (length es) → PlacedWell (get_or (es ++ (e ∷ [])) i no_record)
 placed_more es e all u i (inl lt) q = subst PlacedWell (sym (get_or-append es (e ∷ []) no_record i lt)) (all i lt)
 placed_more es e all u i (inr ge) q = let n : length es ≡ i = omega arith in subst PlacedWell (sym (get_or_at es e [] no_record i n)) u
 
-tells_record : (least count worths : ℕ) (es : List Record) (ws : List ℤ) (e : Record) → Tells least count worths es ws → PlacedWell e → Tells (key e + 1) (count + 1) worths (es ++ (e ∷ [])) ws
-tells_record least count worths es ws e t u =
-    let n : length (es ++ (e ∷ [])) ≡ suc (length es) = simp length-append (omega arith) in
-    let l = least_more es e in
-    let q = t.count_is in
-    record { least_is = omega arith; count_is = omega arith; worths_is = t.worths_is; placed = λ i v. placed_more es e t.placed u i (cases_lt i (length es)) (omega arith) }
+placed_well : (z : Sizes) (e : Record) → FitsSizes z e → PlacedWell e
+placed_well z e h = let few = z.fit.few_conditions in let few' = z.fit.few_remedies in let a = h.remedy in let b = h.next in (omega arith, omega arith)
 
-tells_worth : (least count worths : ℕ) (es : List Record) (ws : List ℤ) (z : ℤ) → Tells least count worths es ws → Tells least count (worths + 1) es (ws ++ (z ∷ []))
-tells_worth least count worths es ws z t =
-    let n : length (ws ++ (z ∷ [])) ≡ suc (length ws) = simp length-append (omega arith) in
-    let q = t.worths_is in
-    record { least_is = t.least_is; count_is = t.count_is; worths_is = omega arith; placed = t.placed }
+-- one record more is entered as an entry is, and one that is not stops the reading as an entry does
+record_plus : (p : Progress) (e : Record) (p' : Progress) → FitsSizes p.sizes e → PlusRecord p e p' → EntryEntered p (Outcome e) p'
+record_plus p e p' h a =
+    let u = placed_well p.sizes e h in
+    let due = a.due in let free = a.free in let least = a.least in let count = a.count in
+    record {
+      room = a.room;
+      sizes = a.sizes;
+      stands = omega arith;
+      good_line = λ es ws t. let l = t.least_is in let n = t.count_is in record_entered p.room.records p.room.worths (so_far p.sizes es ws) (line_of p) e t.placed u (omega arith) (omega arith);
+      tells = λ es ws t.
+          let n : length (es ++ (e ∷ [])) ≡ suc (length es) = simp length-append (omega arith) in
+          let l = least_more es e in let q = t.count_is in
+          record { least_is = omega arith; count_is = omega arith; worths_is = a.worths ∙ t.worths_is; placed = λ i v. placed_more es e t.placed u i (cases_lt i (length es)) (omega arith) };
+    }
 
-module _ (m w c r p least count worths : ℕ) where
-  pub entered_record : (e : Record) (least' count' worths' : ℕ) → PlacedWell e → least ≤ key e → count < m → least' ≡ key e + 1 → count' ≡ count + 1 → worths' ≡ worths → EntryEntered m w c r p least count worths (Outcome e) least' count' worths'
-  entered_record e least' count' worths' u h free ql qc qw es ws t = (record_entered m w c r p es ws (count + worths + 2) least count e t.least_is t.count_is t.placed u h free, subst (λ x. Tells x count' worths' (es ++ (e ∷ [])) ws) (sym ql) (subst (λ x. Tells (key e + 1) x worths' (es ++ (e ∷ [])) ws) (sym qc) (subst (λ x. Tells (key e + 1) (count + 1) x (es ++ (e ∷ [])) ws) (sym qw) (tells_record least count worths es ws e t u))))
+record_not : (p : Progress) (e : Record) (f : FileFault) → FitsSizes p.sizes e → NotEntered (line_of p) (key e < least_after p.last) (p.room.records ≤ p.count) f → EntryStopped p (Outcome e) f
+record_not p e f h (inl (q, late)) es ws t =
+    let l = t.least_is in
+    record_late p.room.records p.room.worths (so_far p.sizes es ws) (line_of p) e t.placed (placed_well p.sizes e h) (omega arith) ∙ ap (λ x. faulty (reported_file x)) (sym q)
+record_not p e f h (inr (q, on, full)) es ws t =
+    let l = t.least_is in let n = t.count_is in
+    record_full p.room.records p.room.worths (so_far p.sizes es ws) (line_of p) e t.placed (placed_well p.sizes e h) (⊎_elim (λ a. absurd (on a)) (λ a. omega arith) (cases_lt (key e) (least_after p.last))) (omega arith) ∙ ap (λ x. faulty (reported_file x)) (sym q)
 
-  pub stopped_record : (e : Record) (f : FileFault) → PlacedWell e → NotEntered (count + worths + 2) (key e < least) (m ≤ count) f → EntryStopped m w c r p least count worths (Outcome e) f
-  stopped_record e f u (inl (q, late)) es ws t = record_late m w c r p es ws (count + worths + 2) least e t.least_is t.placed u late ∙ ap (λ x. faulty (reported_file x)) (sym q)
-  stopped_record e f u (inr (q, on, full)) es ws t = record_full m w c r p es ws (count + worths + 2) least count e t.least_is t.count_is t.placed u (⊎_elim (λ a. absurd (on a)) (λ a. a) (cases_lt (key e) least)) full ∙ ap (λ x. faulty (reported_file x)) (sym q)
-
-  pub entered_worth : (s : ℕ) (z : ℤ) (least' count' worths' : ℕ) → s ≡ worths → worths < w → least' ≡ least → count' ≡ count → worths' ≡ worths + 1 → EntryEntered m w c r p least count worths (Worth s z) least' count' worths'
-  entered_worth s z least' count' worths' e free ql qc qw es ws t = (worth_entered m w c r p es ws (count + worths + 2) worths s z t.worths_is e free, subst (λ x. Tells x count' worths' es (ws ++ (z ∷ []))) (sym ql) (subst (λ x. Tells least x worths' es (ws ++ (z ∷ []))) (sym qc) (subst (λ x. Tells least count x es (ws ++ (z ∷ []))) (sym qw) (tells_worth least count worths es ws z t))))
-
-  pub stopped_worth : (s : ℕ) (z : ℤ) (f : FileFault) → NotEntered (count + worths + 2) (s ≡ worths → ⊥) (w ≤ worths) f → EntryStopped m w c r p least count worths (Worth s z) f
-  stopped_worth s z f (inl (q, late)) es ws t = worth_late m w c r p es ws (count + worths + 2) worths s z t.worths_is late ∙ ap (λ x. faulty (reported_file x)) (sym q)
-  stopped_worth s z f (inr (q, on, full)) es ws t = worth_full m w c r p es ws (count + worths + 2) worths s z t.worths_is (⊎_elim (λ a. a) (λ a. absurd (on a)) (cases_eq s worths)) full ∙ ap (λ x. faulty (reported_file x)) (sym q)
-
-  pub entered_end : EntryEntered m w c r p least count worths End least count worths
-  entered_end es ws t = (refl, t)
-
--- an entry of the next line, from the line that was cut off and what was made of it
-pub entry_next : (c r p count worths : ℕ) (bs t left : Bytes) (z : Sizes) (known k n : ℕ) (y : Entry) → z.conditions ≡ c → z.remedies ≡ r → z.parts ≡ p → known ≡ worths → k ≡ count + worths + 2 → LineCut k bs n t left → EntryRead z known n t (Ok y) → EntryNext c r p count worths bs y left
-entry_next c r p count worths bs t left z known k n y zc zr zp kn kk cut h m w es ws ne nw =
-    let b = so_far c r p es ws in
-    let l = count + worths + 2 in
-    let h0 = subst (λ x. check_line x (next_letters z.conditions known) (next_form z.conditions z.remedies z.parts) t ≡ good (entry_values y)) (cut.numbered ∙ kk) h in
-    let h1 = subst (λ x. check_line l (next_letters x known) (next_form x z.remedies z.parts) t ≡ good (entry_values y)) zc h0 in
-    let h2 = subst (λ x. check_line l (next_letters c known) (next_form c x z.parts) t ≡ good (entry_values y)) zr h1 in
-    let h3 = subst (λ x. check_line l (next_letters c known) (next_form c r x) t ≡ good (entry_values y)) zp h2 in
-    let h4 = subst (λ x. check_line l (next_letters c x) (next_form c r p) t ≡ good (entry_values y)) (kn ∙ nw) h3 in
-    read_cut m w (middle b) l n bs t left (subst (λ x. LineCut x bs n t left) kk cut) ∙ later_checked m w b l t left (entry_values y) h4
-
--- an answer, case by case
-pub by_cases : {A E : Type 0} (a : Result A E) (P P' : A → Type 0) (Q Q' : E → Type 0) (G : A → Type 0) → MatchResult a P Q → IfOk a G → ((x : A) → P x → G x → P' x) → ((e : E) → Q e → Q' e) → MatchResult a P' Q'
-by_cases (Ok x) P P' Q Q' G h g f k = f x h g
-by_cases (Err e) P P' Q Q' G h g f k = k e h
-
-pub made_so : {A E : Type 0} (a : Result A E) (G H : A → Type 0) → IfOk a G → ((x : A) → G x → H x) → IfOk a H
-made_so (Ok x) G H g f = f x g
-made_so (Err e) G H g f = tt
+-- the two, where an entry is a record
+pub record_entry : (p p' : Progress) (y : Entry) (e : Record) (a : Result (Unit {0}) FileFault) → y ≡ Outcome e → FitsEntry p.sizes p.worths y → MatchResult a (λ _. PlusRecord p e p') (NotEntered (line_of p) (key e < least_after p.last) (p.room.records ≤ p.count)) → MatchResult a (λ _. EntryEntered p y p') (EntryStopped p y)
+record_entry p p' y e a q h = subst (λ (x : Entry). FitsEntry p.sizes p.worths x → MatchResult a (λ _. PlusRecord p e p') (NotEntered (line_of p) (key e < least_after p.last) (p.room.records ≤ p.count)) → MatchResult a (λ _. EntryEntered p x p') (EntryStopped p x)) (sym q) (by_answer a) h
+  where
+    by_answer : (a : Result (Unit {0}) FileFault) → FitsSizes p.sizes e → MatchResult a (λ _. PlusRecord p e p') (NotEntered (line_of p) (key e < least_after p.last) (p.room.records ≤ p.count)) → MatchResult a (λ _. EntryEntered p (Outcome e) p') (EntryStopped p (Outcome e))
+    by_answer (Ok u) h b = record_plus p e p' h b
+    by_answer (Err f) h b = record_not p e f h b

@@ -1,21 +1,22 @@
 -- How far reading has come, as the code holds it, and one line more.
-use Rattle.std.specs.Prelude.{◌≡◌, ℕ, suc, ◌+◌, ◌<◌, ◌⊎◌, List, [], ◌∷◌, ◌++◌, length, ℤ, slice_index_or}
+use Rattle.std.specs.Prelude.{◌≡◌, ℕ, suc, ◌+◌, ◌<◌, ◌≤◌, ◌⊎◌, List, [], ◌∷◌, ◌++◌, length, ℤ, slice_index_or}
 use Rattle.books.specs.declared.record.Record.{Record}
+use Rattle.books.specs.declared.sizes.Sizes.{Sizes}
 use Rattle.books.specs.Entries.{no_record, key}
-use Rattle.fields.specs.declared.faults.LineFault.{LineFault}
 use Rattle.fields.specs.Numerals.{Bytes}
-use Rattle.fields.specs.Checking.{and_then}
 use Rattle.fields.specs.Checking.Checked.{good, faulty}
-use Rattle.fields.specs.Views.{reported_line}
 use Rattle.bookfile.specs.declared.entries.Entry.{Entry}
 use Rattle.bookfile.specs.declared.entries.Entry.TheVariants.{Outcome, Worth, End}
 use Rattle.bookfile.specs.declared.faults.FileFault.{FileFault}
 use Rattle.bookfile.specs.declared.faults.FileFault.TheVariants.{Order, Space}
+use Rattle.bookfile.specs.declared.progress.Progress.{Progress}
+use Rattle.bookfile.specs.declared.progress.Room.{Room}
+use Rattle.bookfile.specs.Entered.{entry_values}
+use Rattle.bookfile.specs.Entries.{least_after}
+use Rattle.bookfile.specs.Faults.{reported_file}
 use Rattle.bookfile.specs.File.{WrittenBook, State}
 use Rattle.bookfile.specs.File.State.{middle, finished}
 use Rattle.bookfile.specs.Reading.{plus_record, plus_worth, enter_line, read_on, reading}
-use Rattle.bookfile.specs.Faults.{reported_file}
-use Rattle.bookfile.specs.Entered.{entry_values}
 
 -- the least key of a record that may come next
 abbrev pub least_key : List Record → ℕ
@@ -23,30 +24,45 @@ least_key [] = 0
 least_key (e ∷ es) = suc (key (slice_index_or (e ∷ es) (length es) no_record))
 
 -- the book of which some lines were read: its sizes, its records and its worths
-abbrev pub so_far : (conditions remedies parts : ℕ) → List Record → List ℤ → WrittenBook
-so_far c r p es ws = record { conditions = c; remedies = r; parts = p; records = es; worths = ws }
+abbrev pub so_far : Sizes → List Record → List ℤ → WrittenBook
+so_far z es ws = record { conditions = z.conditions; remedies = z.remedies; parts = z.parts; records = es; worths = ws }
 
 -- within the largest sizes, so that keys order records
 abbrev pub PlacedWell : Record → Type 0
 PlacedWell e = (e.remedy < 8) × (e.next < 32)
 
--- these numbers stand for these records and worths
-pub record Tells (least count worths : ℕ) (es : List Record) (ws : List ℤ) : Type 0 where
-  pub least_is : least ≡ least_key es
-  pub count_is : count ≡ length es
-  pub worths_is : worths ≡ length ws
+-- these records and worths stand
+pub record Tells (p : Progress) (es : List Record) (ws : List ℤ) : Type 0 where
+  pub least_is : least_after p.last ≡ least_key es
+  pub count_is : p.count ≡ length es
+  pub worths_is : p.worths ≡ length ws
   pub placed : (i : ℕ) → i < length es → PlacedWell (slice_index_or es i no_record)
 
--- the bytes of line k on, where so many records and worths stand: an entry and the bytes after it, or a fault of the line
-abbrev pub EntryNext : (conditions remedies parts count worths : ℕ) → Bytes → Entry → Bytes → Type 0
-EntryNext c r p count worths bs y left = (m w : ℕ) (es : List Record) (ws : List ℤ) → count ≡ length es → worths ≡ length ws → read_on m w (middle (so_far c r p es ws)) (count + worths + 2) bs ≡ and_then (enter_line m w (middle (so_far c r p es ws)) (count + worths + 2) (entry_values y)) (λ s. read_on m w s (suc (count + worths + 2)) left)
+-- the number of the line that comes next
+abbrev pub line_of : Progress → ℕ
+line_of p = p.count + p.worths + 2
 
-abbrev pub NoEntry : (conditions remedies parts count worths : ℕ) → Bytes → LineFault → Type 0
-NoEntry c r p count worths bs e = (m w : ℕ) (es : List Record) (ws : List ℤ) → count ≡ length es → worths ≡ length ws → read_on m w (middle (so_far c r p es ws)) (count + worths + 2) bs ≡ faulty (reported_line e)
-
--- why a line is not entered: out of order, or else without room
+-- why line k is not entered: out of order, or else without room
 abbrev pub NotEntered : (k : ℕ) (late full : Type 0) → FileFault → Type 0
 NotEntered k late full f = ((f ≡ Order k) × late) ⊎ ((f ≡ Space k) × ¬ late × full)
+
+-- one record more, which may come and has room; one worth more, which has room
+pub record PlusRecord (p : Progress) (e : Record) (p' : Progress) : Type 0 where
+  pub due : least_after p.last ≤ key e
+  pub free : p.count < p.room.records
+  pub room : p'.room ≡ p.room
+  pub sizes : p'.sizes ≡ p.sizes
+  pub least : least_after p'.last ≡ key e + 1
+  pub count : p'.count ≡ p.count + 1
+  pub worths : p'.worths ≡ p.worths
+
+pub record PlusWorth (p p' : Progress) : Type 0 where
+  pub free : p.worths < p.room.worths
+  pub room : p'.room ≡ p.room
+  pub sizes : p'.sizes ≡ p.sizes
+  pub least : least_after p'.last ≡ least_after p.last
+  pub count : p'.count ≡ p.count
+  pub worths : p'.worths ≡ p.worths + 1
 
 -- what stands after an entry
 abbrev pub records_with : Entry → List Record → List Record
@@ -64,13 +80,43 @@ state_with (Outcome e) b = middle (plus_record b e)
 state_with (Worth s z) b = middle (plus_worth b z)
 state_with End b = finished b
 
--- an entry after so many records and worths, where m and w have room: it is entered, with these numbers after it, or not
-abbrev pub EntryEntered : (m w conditions remedies parts least count worths : ℕ) → Entry → (least' count' worths' : ℕ) → Type 0
-EntryEntered m w c r p least count worths y least' count' worths' = (es : List Record) (ws : List ℤ) → Tells least count worths es ws → (enter_line m w (middle (so_far c r p es ws)) (count + worths + 2) (entry_values y) ≡ good (state_with y (so_far c r p es ws))) × Tells least' count' worths' (records_with y es) (worths_with y ws)
+-- an entry was the last to be entered: its record stands, or its worth, or all worths stand
+abbrev pub Stands : Entry → Progress → Type 0
+Stands (Outcome e) p = 1 ≤ p.count
+Stands (Worth s z) p = s < p.worths
+Stands End p = p.sizes.conditions ≤ p.worths
 
-abbrev pub EntryStopped : (m w conditions remedies parts least count worths : ℕ) → Entry → FileFault → Type 0
-EntryStopped m w c r p least count worths y f = (es : List Record) (ws : List ℤ) → Tells least count worths es ws → enter_line m w (middle (so_far c r p es ws)) (count + worths + 2) (entry_values y) ≡ faulty (reported_file f)
+-- an entry where these records and worths stand: it is entered, with this progress after it, or not
+pub record EntryEntered (p : Progress) (y : Entry) (p' : Progress) : Type 0 where
+  pub room : p'.room ≡ p.room
+  pub sizes : p'.sizes ≡ p.sizes
+  pub stands : Stands y p'
+  pub good_line : (es : List Record) (ws : List ℤ) → Tells p es ws → enter_line p.room.records p.room.worths (middle (so_far p.sizes es ws)) (line_of p) (entry_values y) ≡ good (state_with y (so_far p.sizes es ws))
+  pub tells : (es : List Record) (ws : List ℤ) → Tells p es ws → Tells p' (records_with y es) (worths_with y ws)
 
--- reading some bytes comes to this: these sizes and numbers, and the bytes that are left
-abbrev pub ComeTo : (m w : ℕ) → Bytes → (conditions remedies parts least count worths : ℕ) → Bytes → Type 0
-ComeTo m w bs c r p least count worths left = (es : List Record) × (ws : List ℤ) × Tells least count worths es ws × (reading m w bs ≡ read_on m w (middle (so_far c r p es ws)) (count + worths + 2) left)
+abbrev pub EntryStopped : Progress → Entry → FileFault → Type 0
+EntryStopped p y f = (es : List Record) (ws : List ℤ) → Tells p es ws → enter_line p.room.records p.room.worths (middle (so_far p.sizes es ws)) (line_of p) (entry_values y) ≡ faulty (reported_file f)
+
+-- reading some bytes comes to this progress, and to bytes that are left from line k on: more lines, or those after the E line
+pub record Comes (state : WrittenBook → State) (room : Room) (bs : Bytes) (p : Progress) (k : ℕ) (left : Bytes) : Type 0 where
+  pub room_is : p.room ≡ room
+  pub records : List Record
+  pub worths : List ℤ
+  pub tells : Tells p records worths
+  pub same : reading room.records room.worths bs ≡ read_on room.records room.worths (state (so_far p.sizes records worths)) k left
+
+abbrev pub ComeTo : Room → Bytes → Progress → Bytes → Type 0
+ComeTo room bs p left = Comes middle room bs p (line_of p) left
+
+abbrev pub ComeToEnd : Room → Bytes → Progress → Bytes → Type 0
+ComeToEnd room bs p left = Comes finished room bs p (line_of p + 1) left
+
+-- one line further, which said this
+abbrev pub CameTo : Room → Bytes → Entry → Progress → Bytes → Type 0
+CameTo room bs (Outcome e) p left = ComeTo room bs p left
+CameTo room bs (Worth s z) p left = ComeTo room bs p left
+CameTo room bs End p left = ComeToEnd room bs p left
+
+-- reading some bytes finds this fault
+abbrev pub Declined : Room → Bytes → FileFault → Type 0
+Declined room bs f = reading room.records room.worths bs ≡ faulty (reported_file f)

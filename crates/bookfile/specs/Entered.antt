@@ -9,7 +9,7 @@ use Rattle.fields.specs.Kinds.{Kind}
 use Rattle.fields.specs.Checking.{check_fields, check_line}
 use Rattle.fields.specs.Checking.Checked.{good, faulty}
 use Rattle.fields.specs.Views.{reported_field, reported_line}
-use Rattle.bookfile.specs.declared.entries.Sizes.{Sizes}
+use Rattle.books.specs.declared.sizes.Sizes.{Sizes}
 use Rattle.bookfile.specs.declared.entries.Entry.{Entry}
 use Rattle.bookfile.specs.declared.entries.Entry.TheVariants.{Outcome, Worth, End}
 use Rattle.bookfile.specs.File.{may_stand, form, next_letters, next_form}

@@ -1,19 +1,23 @@
 -- The limits of what lines say.
-use Rattle.std.specs.Prelude.{ℕ, ◌<◌, ◌≤◌}
+use Rattle.std.specs.Prelude.{ℕ, suc, ◌<◌, ◌≤◌, Some, None, Option}
 use Rattle.books.specs.declared.record.Record.{Record}
+use Rattle.books.specs.declared.record.Place.{Place}
+use Rattle.books.specs.declared.sizes.Sizes.{Sizes}
+use Rattle.books.specs.Entries.{rank}
 use Rattle.bookfile.specs.declared.read.ReadBook.{ReadBook}
-use Rattle.bookfile.specs.declared.entries.Sizes.{Sizes}
 use Rattle.bookfile.specs.declared.entries.Entry.{Entry}
 use Rattle.bookfile.specs.declared.entries.Entry.TheVariants.{Outcome, Worth, End}
 
--- sizes that a book may have
-pub record SmallSizes (z : Sizes) : Type 0 where
-  pub some_condition : 1 ≤ z.conditions
-  pub few_conditions : z.conditions ≤ 32
-  pub some_remedy : 1 ≤ z.remedies
-  pub few_remedies : z.remedies ≤ 8
-  pub some_parts : 1 ≤ z.parts
-  pub few_parts : z.parts ≤ 1000
+-- a place that a record of some book may have
+pub record FitsPlace (q : Place) : Type 0 where
+  pub condition : q.condition < 32
+  pub remedy : q.remedy < 8
+  pub next : q.next < 32
+
+-- the least rank that a record after this place may have, or the first record of all
+abbrev pub least_after : Option Place → ℕ
+least_after None = 0
+least_after (Some q) = suc (rank q.condition q.remedy q.next)
 
 pub record FitsSizes (z : Sizes) (e : Record) : Type 0 where
   pub condition : e.condition < z.conditions
@@ -26,15 +30,7 @@ FitsEntry z worths (Outcome e) = FitsSizes z e
 FitsEntry z worths (Worth s w) = s < z.conditions
 FitsEntry z worths End = z.conditions ≤ worths
 
--- an entry has room in the list of records or the table of worths
-abbrev pub HasSpace : Entry → (count records worths table : ℕ) → Type 0
-HasSpace (Outcome e) count records worths table = count < records
-HasSpace (Worth s w) count records worths table = worths < table
-HasSpace End count records worths table = Unit {0}
-
 -- what was read lies in a list of records and a table of worths of these lengths
 pub record Readable (b : ReadBook) (records worths : ℕ) : Type 0 where
-  pub some_condition : 1 ≤ b.conditions
-  pub few_conditions : b.conditions ≤ 32
   pub records_there : b.count ≤ records
-  pub worths_there : b.conditions ≤ worths
+  pub worths_there : b.sizes.conditions ≤ worths

@@ -13,14 +13,14 @@ use Rattle.bookfile.specs.Reading.{reading}
 
 -- the lent list and table hold a book that was read, and keep what is past it
 pub record Filled (b : WrittenBook) (r : ReadBook) (es es' : List Record) (zs zs' : List ℤ) : Type 0 where
-  pub conditions : r.conditions ≡ b.conditions
-  pub remedies : r.remedies ≡ b.remedies
-  pub parts : r.parts ≡ b.parts
+  pub conditions : r.sizes.conditions ≡ b.conditions
+  pub remedies : r.sizes.remedies ≡ b.remedies
+  pub parts : r.sizes.parts ≡ b.parts
   pub count : r.count ≡ length b.records
   pub records : take r.count es' ≡ b.records
   pub records_kept : KeptPast r.count es es'
-  pub worths : take r.conditions zs' ≡ b.worths
-  pub worths_kept : KeptPast r.conditions zs zs'
+  pub worths : take r.sizes.conditions zs' ≡ b.worths
+  pub worths_kept : KeptPast r.sizes.conditions zs zs'
 
 -- es and zs before, es' and zs' after
 abbrev pub ReadAnswers : Bytes → Result ReadBook FileFault → (es es' : List Record) (zs zs' : List ℤ) → Type 0
@@ -34,9 +34,9 @@ WriteAnswers short b (Err f) u u' = (f ≡ short) × (length u < length (render 
 
 -- what a file holds, before anything is written: the sizes of the book that is read and how many records it lists
 pub record Holds (l : WrittenBook) (b : ReadBook) : Type 0 where
-  pub conditions : b.conditions ≡ l.conditions
-  pub remedies : b.remedies ≡ l.remedies
-  pub parts : b.parts ≡ l.parts
+  pub conditions : b.sizes.conditions ≡ l.conditions
+  pub remedies : b.sizes.remedies ≡ l.remedies
+  pub parts : b.sizes.parts ≡ l.parts
   pub count : b.count ≡ length l.records
 
 abbrev pub CheckAnswers : (m w : ℕ) → Bytes → Result ReadBook FileFault → Type 0

@@ -1,10 +1,13 @@
 // What each line of a book file says.
 ghost use Rattle.std.specs.Prelude.{◌≡◌, ◌<◌, ◌≤◌, IfOk};
-ghost use Rattle.bookfile.specs.Entries.{SmallSizes, FitsSizes, FitsEntry};
+ghost use Rattle.bookfile.specs.Entries.{FitsSizes, FitsEntry};
 ghost use Rattle.bookfile.specs.Entered.{SizesRead, EntryRead, FieldsRead, size_values, record_values, worth_values};
+ghost use Rattle.fields.specs.declared.faults.FieldFault.TheVariants.{Letter};
+ghost use Rattle.fields.specs.declared.faults.LineFault.TheVariants.{Field};
 ghost use Rattle.bookfile.specs.File.{size_form, record_form, worth_form};
 
 use books::record::Record;
+use books::sizes::Sizes;
 use fields::faults::{FieldFault, LineFault};
 use fields::lines::Line;
 use fields::numbers::{natural, signed_number};
@@ -12,14 +15,6 @@ use fields::parts::{Fields, counted, letter};
 
 // The largest amount or worth of a file, either way.
 const MOST: u32 = 1_000_000;
-
-// The sizes of a book.
-#[derive(Clone, Copy)]
-pub(crate) struct Sizes {
-    pub conditions: usize,
-    pub remedies: usize,
-    pub parts: u32,
-}
 
 // A line after the first: a record, the worth of a condition, or the end.
 #[derive(Clone, Copy)]
@@ -29,36 +24,37 @@ pub(crate) enum Entry {
     End,
 }
 
+// A line with a letter that may not stand there.
+fn wrong_letter(line: Line<'_>) -> LineFault
+    ensures { result ≡ Field (Letter line.entry.number 1) }
+{
+    LineFault::Field(FieldFault::Letter {
+        line: line.number,
+        field: 1,
+    })
+}
+
 // After `B`: conditions, remedies, parts.
 fn sizes_in(fields: Fields<'_>) -> Result<Sizes, FieldFault>
-    ensures read { FieldsRead size_form size_values fields.entry.line fields.entry.place fields.entry.rest.now result }
-    ensures small { IfOk result SmallSizes }
+    ensures { FieldsRead size_form size_values fields.entry.line fields.entry.place fields.entry.rest.now result }
 {
     let (conditions, fields) = fields.cut();
-    let conditions = natural(conditions, 1, 32)? as usize;
     let (remedies, fields) = fields.cut();
-    let remedies = natural(remedies, 1, 8)? as usize;
     let (parts, _) = fields.cut();
-    let parts = natural(parts, 1, 1000)?;
     Ok(Sizes {
-        conditions,
-        remedies,
-        parts,
+        conditions: natural(conditions, 1, 32)? as usize,
+        remedies: natural(remedies, 1, 8)? as usize,
+        parts: natural(parts, 1, 1000)?,
     })
 }
 
 // The first line.
 pub(crate) fn sizes_of(line: Line<'_>) -> Result<Sizes, LineFault>
-    ensures read { SizesRead line.entry.number line.entry.text.now result }
-    ensures small { IfOk result SmallSizes }
+    ensures { SizesRead line.entry.number line.entry.text.now result }
 {
     let (first, rest) = Fields::of(line).cut();
-    match letter(first)? {
-        'B' => {}
-        _ => return Err(LineFault::Field(FieldFault::Letter {
-            line: line.number,
-            field: 1,
-        })),
+    if letter(first)? != 'B' {
+        return Err(wrong_letter(line));
     }
     counted(line, 3)?;
     Ok(sizes_in(rest)?)
@@ -66,33 +62,26 @@ pub(crate) fn sizes_of(line: Line<'_>) -> Result<Sizes, LineFault>
 
 // After `R`: condition, remedy, next, share, amount.
 fn record_of(sizes: Sizes, fields: Fields<'_>) -> Result<Record, FieldFault>
-    requires { SmallSizes sizes }
     ensures read { FieldsRead (record_form sizes.conditions sizes.remedies sizes.parts) record_values fields.entry.line fields.entry.place fields.entry.rest.now result }
     ensures fits { IfOk result (FitsSizes sizes) }
 {
     let last = sizes.conditions as u32 - 1;
     let (condition, fields) = fields.cut();
-    let condition = natural(condition, 0, last)? as usize;
     let (remedy, fields) = fields.cut();
-    let remedy = natural(remedy, 0, sizes.remedies as u32 - 1)? as usize;
     let (next, fields) = fields.cut();
-    let next = natural(next, 0, last)? as usize;
     let (share, fields) = fields.cut();
-    let share = natural(share, 1, sizes.parts)?;
     let (amount, _) = fields.cut();
-    let amount = signed_number(amount, MOST)?;
     Ok(Record {
-        condition,
-        remedy,
-        next,
-        share,
-        amount,
+        condition: natural(condition, 0, last)? as usize,
+        remedy: natural(remedy, 0, sizes.remedies as u32 - 1)? as usize,
+        next: natural(next, 0, last)? as usize,
+        share: natural(share, 1, sizes.parts)?,
+        amount: signed_number(amount, MOST)?,
     })
 }
 
 // After `C`: condition, worth.
 fn worth_of(sizes: Sizes, fields: Fields<'_>) -> Result<(usize, i64), FieldFault>
-    requires { SmallSizes sizes }
     ensures read { FieldsRead (worth_form sizes.conditions) worth_values fields.entry.line fields.entry.place fields.entry.rest.now result }
     ensures fits { IfOk result (λ p. p.0 < sizes.conditions) }
 {
@@ -106,7 +95,6 @@ fn worth_of(sizes: Sizes, fields: Fields<'_>) -> Result<(usize, i64), FieldFault
 // A line after the first, where the worths of some conditions stand already: records come before all
 // worths, then a worth for each condition, then the end.
 pub(crate) fn entry_of(sizes: Sizes, worths: usize, line: Line<'_>) -> Result<Entry, LineFault>
-    requires { SmallSizes sizes }
     ensures read { EntryRead sizes worths line.entry.number line.entry.text.now result }
     ensures fits { IfOk result (FitsEntry sizes worths) }
 {
@@ -125,9 +113,6 @@ pub(crate) fn entry_of(sizes: Sizes, worths: usize, line: Line<'_>) -> Result<En
             counted(line, 0)?;
             Ok(Entry::End)
         }
-        _ => Err(LineFault::Field(FieldFault::Letter {
-            line: line.number,
-            field: 1,
-        })),
+        _ => Err(wrong_letter(line)),
     }
 }

@@ -29,21 +29,19 @@ impl FileFault {
         ensures { result ≡ file_fault_number self.now }
     {
         match self {
-            FileFault::Line(e) => e.number(),
-            FileFault::Order { .. } => 24,
-            FileFault::Space { .. } => 25,
-            FileFault::Surplus { .. } => 26,
+            Self::Line(e) => e.number(),
+            Self::Order { .. } => 24,
+            Self::Space { .. } => 25,
+            Self::Surplus { .. } => 26,
         }
     }
 
     pub fn places(&self) -> (usize, usize, usize)
         ensures { result ≡ file_fault_places self.now }
     {
-        match self {
-            FileFault::Line(e) => e.places(),
-            FileFault::Order { line } => (*line, 0, 0),
-            FileFault::Space { line } => (*line, 0, 0),
-            FileFault::Surplus { line } => (*line, 0, 0),
+        match *self {
+            Self::Line(e) => e.places(),
+            Self::Order { line } | Self::Space { line } | Self::Surplus { line } => (line, 0, 0),
         }
     }
 }

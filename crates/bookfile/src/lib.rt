@@ -6,3 +6,4 @@ pub mod faults;
 pub mod laws;
 mod progress;
 pub mod read;
+mod reader;

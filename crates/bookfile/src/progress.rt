@@ -1,178 +1,104 @@
 // How far the reading of a file has come.
-ghost use Rattle.std.specs.Prelude.{◌≡◌, ◌+◌, ◌*◌, ◌<◌, ◌≤◌, IfOk, MatchResult, OnOk, ◌≢◌};
-ghost use Rattle.books.specs.Entries.{key};
-ghost use Rattle.bookfile.specs.Advance.{NotEntered, EntryEntered, EntryStopped};
-ghost use Rattle.bookfile.specs.Entries.{SmallSizes, FitsSizes, FitsEntry, HasSpace};
+ghost use Rattle.std.specs.Prelude.{◌≤◌};
+ghost use Rattle.std.specs.Option.{ForSome};
+ghost use Rattle.bookfile.specs.Entries.{FitsPlace, least_after};
 
-use super::entries::{Entry, Sizes};
+use super::entries::Entry;
 use super::faults::FileFault;
-use books::record::Record;
+use books::record::{Place, Record};
+use books::sizes::Sizes;
 
-// The sizes, how many records and worths stand, and the least order that the next record may have.
+// How many records and worths have room.
 #[derive(Clone, Copy)]
-pub(crate) struct Progress {
-    conditions: usize,
-    remedies: usize,
-    parts: u32,
-    least: usize,
-    count: usize,
-    worths: usize,
-    ghost some_condition: { 1 ≤ conditions },
-    ghost few_conditions: { conditions ≤ 32 },
-    ghost some_remedy: { 1 ≤ remedies },
-    ghost few_remedies: { remedies ≤ 8 },
-    ghost some_parts: { 1 ≤ parts },
-    ghost few_parts: { parts ≤ 1000 },
-    ghost rising: { count ≤ least },
-    ghost ends: { least ≤ 8192 },
-    ghost few_worths: { worths ≤ conditions },
+pub(crate) struct Room {
+    pub records: usize,
+    pub worths: usize,
 }
 
-// The place of a record in order of condition, remedy, next.
-fn order_of(entry: &Record) -> usize
-    requires condition { entry.now.condition < 32 }
-    requires remedy { entry.now.remedy < 8 }
-    requires next { entry.now.next < 32 }
-    ensures { result ≡ entry.now.condition * 256 + entry.now.remedy * 32 + entry.now.next }
-{
-    entry.condition * 256 + entry.remedy * 32 + entry.next
+// How many records and worths stand, and the place of the last record.
+#[derive(Clone, Copy)]
+pub(crate) struct Progress {
+    pub room: Room,
+    pub sizes: Sizes,
+    pub last: Option<Place>,
+    pub count: usize,
+    pub worths: usize,
+    ghost last_fits: { ForSome last FitsPlace },
+    ghost rising: { count ≤ least_after last },
+    ghost few_worths: { worths ≤ sizes.conditions },
+    ghost records_there: { count ≤ room.records },
+    ghost worths_there: { worths ≤ room.worths },
 }
 
 impl Progress {
+    ghost use Rattle.std.specs.Prelude.{◌≡◌, ◌+◌, ◌<◌, MatchResult, ◌≢◌};
+    ghost use Rattle.books.specs.Entries.{key};
+    ghost use Rattle.bookfile.specs.Entries.{FitsSizes, FitsEntry};
+    ghost use Rattle.bookfile.specs.Advance.{line_of, NotEntered, PlusRecord, PlusWorth, EntryEntered, EntryStopped};
+
     // After the first line.
-    pub(crate) fn begun(sizes: Sizes) -> Progress
-        requires { SmallSizes sizes }
-        ensures { (result.conditions ≡ sizes.conditions) × (result.remedies ≡ sizes.remedies) × (result.parts ≡ sizes.parts) × (result.least ≡ 0) × (result.count ≡ 0) × (result.worths ≡ 0) }
+    pub(crate) fn begun(sizes: Sizes, room: Room) -> Progress
+        ensures { (result.room ≡ room) × (result.sizes ≡ sizes) × (least_after result.last ≡ 0) × (result.count ≡ 0) × (result.worths ≡ 0) }
     {
-        let Sizes {
-            conditions,
-            remedies,
-            parts,
-        } = sizes;
         Progress {
-            conditions,
-            remedies,
-            parts,
-            least: 0,
+            room,
+            sizes,
+            last: None,
             count: 0,
             worths: 0,
         }
     }
 
-    pub(crate) fn sizes(&self) -> Sizes
-        ensures small { SmallSizes result }
-        ensures conditions { result.conditions ≡ self.now.conditions }
-        ensures remedies { result.remedies ≡ self.now.remedies }
-        ensures parts { result.parts ≡ self.now.parts }
-    {
-        Sizes {
-            conditions: self.conditions,
-            remedies: self.remedies,
-            parts: self.parts,
-        }
-    }
-
-    pub(crate) fn count(&self) -> usize
-        ensures { result ≡ self.now.count }
-    {
-        self.count
-    }
-
-    pub(crate) fn worths(&self) -> usize
-        ensures { result ≡ self.now.worths }
-    {
-        self.worths
-    }
-
     // The number of the line that comes next.
     pub(crate) fn line(&self) -> usize
-        ensures { result ≡ self.now.count + self.now.worths + 2 }
+        ensures { result ≡ line_of self.now }
     {
         self.count + self.worths + 2
     }
 
-    // With one record more.
-    pub(crate) fn with_record(self, entry: &Record, room: usize) -> Result<Progress, FileFault>
-        requires condition { entry.now.condition < 32 }
-        requires remedy { entry.now.remedy < 8 }
-        requires next { entry.now.next < 32 }
-        ensures answer { MatchResult result (λ p. (self.least ≤ key entry.now) × (p.least ≡ key entry.now + 1)) (NotEntered (self.count + self.worths + 2) (key entry.now < self.least) (room ≤ self.count)) }
-        ensures grown { IfOk result (λ p. (self.count < room) × (p.count ≡ self.count + 1) × (p.worths ≡ self.worths) × (p.conditions ≡ self.conditions) × (p.remedies ≡ self.remedies) × (p.parts ≡ self.parts)) }
+    // One record more.
+    fn add_record(&mut self, outcome: &Record) -> Result<(), FileFault>
+        requires { FitsSizes self.old.sizes outcome.now }
+        ensures { MatchResult result (λ _. PlusRecord self.old outcome.now self.new) (NotEntered (line_of self.old) (key outcome.now < least_after self.old.last) (self.old.room.records ≤ self.old.count)) }
     {
         let line = self.line();
-        let order = order_of(entry);
-        if order < self.least {
+        let place = Some(outcome.place());
+        if place <= self.last {
             return Err(FileFault::Order { line });
         }
-        if self.count >= room {
+        if self.count >= self.room.records {
             return Err(FileFault::Space { line });
         }
-        let Progress {
-            conditions,
-            remedies,
-            parts,
-            least: _,
-            count,
-            worths,
-        } = self;
-        Ok(Progress {
-            conditions,
-            remedies,
-            parts,
-            least: order + 1,
-            count: count + 1,
-            worths,
-        })
+        self.last = place;
+        self.count += 1;
+        Ok(())
     }
 
-    // With the worth of one condition more.
-    pub(crate) fn with_worth(self, condition: usize, room: usize) -> Result<Progress, FileFault>
-        requires { condition < self.conditions }
-        ensures answer { MatchResult result (λ p. (condition ≡ self.worths) × (p.least ≡ self.least)) (NotEntered (self.count + self.worths + 2) (condition ≢ self.worths) (room ≤ self.worths)) }
-        ensures grown { IfOk result (λ p. (self.worths < room) × (p.count ≡ self.count) × (p.worths ≡ self.worths + 1) × (p.conditions ≡ self.conditions) × (p.remedies ≡ self.remedies) × (p.parts ≡ self.parts)) }
+    // The worth of one condition more.
+    fn add_worth(&mut self, condition: usize) -> Result<(), FileFault>
+        requires { condition < self.old.sizes.conditions }
+        ensures { MatchResult result (λ _. (condition ≡ self.old.worths) × PlusWorth self.old self.new) (NotEntered (line_of self.old) (condition ≢ self.old.worths) (self.old.room.worths ≤ self.old.worths)) }
     {
         let line = self.line();
         if condition != self.worths {
             return Err(FileFault::Order { line });
         }
-        if self.worths >= room {
+        if self.worths >= self.room.worths {
             return Err(FileFault::Space { line });
         }
-        let Progress {
-            conditions,
-            remedies,
-            parts,
-            least,
-            count,
-            worths,
-        } = self;
-        Ok(Progress {
-            conditions,
-            remedies,
-            parts,
-            least,
-            count,
-            worths: worths + 1,
-        })
+        self.worths += 1;
+        Ok(())
     }
 
-    // With what the next line says.
-    pub(crate) fn with(
-        self,
-        entry: &Entry,
-        records: usize,
-        worths: usize,
-    ) -> Result<Progress, FileFault>
-        requires { FitsEntry (record { conditions = self.conditions; remedies = self.remedies; parts = self.parts }) self.worths entry.now }
-        ensures answer { MatchResult result (λ p. EntryEntered records worths self.conditions self.remedies self.parts self.least self.count self.worths entry.now p.least p.count p.worths) (EntryStopped records worths self.conditions self.remedies self.parts self.least self.count self.worths entry.now) }
-        ensures sizes { IfOk result (λ p. (p.conditions ≡ self.conditions) × (p.remedies ≡ self.remedies) × (p.parts ≡ self.parts)) }
-        ensures space { OnOk result (HasSpace entry.now self.count records self.worths worths) }
-        ensures grown { IfOk result (λ p. (self.count ≤ records → p.count ≤ records) × (self.worths ≤ worths → p.worths ≤ worths)) }
+    // What one line more says.
+    pub(crate) fn enter(&mut self, entry: &Entry) -> Result<(), FileFault>
+        requires { FitsEntry self.old.sizes self.old.worths entry.now }
+        ensures { MatchResult result (λ _. EntryEntered self.old entry.now self.new) (EntryStopped self.old entry.now) }
     {
-        match *entry {
-            Entry::Outcome(e) => self.with_record(&e, records),
-            Entry::Worth { condition, .. } => self.with_worth(condition, worths),
-            Entry::End => Ok(self),
+        match entry {
+            Entry::Outcome(outcome) => self.add_record(outcome),
+            Entry::Worth { condition, .. } => self.add_worth(*condition),
+            Entry::End => Ok(()),
         }
     }
 }

@@ -1,60 +1,49 @@
-use Rattle.std.proofs.Common.{◌≡◌, ◌-◌, ℤ, sym, subst, arith, w64, SFits, rules}
+use Rattle.std.proofs.Common.{◌≡◌, ◌-◌, List, [], ◌∷◌, length, ℤ, ◌∙◌, arith, w64, SFits, rules}
 use Rattle.std.proofs.lemmas.Result.{err_from_is_err_and}
 use Rattle.std.proofs.lemmas.Int.{to_z-of_z}
-use Rattle.fields.specs.Kinds.Kind.{from_to, either_way}
-use Rattle.fields.specs.Checking.{check_fields}
-use Rattle.fields.specs.Checking.Checked.{good}
-use Rattle.fields.specs.Views.{reported_field}
-use Rattle.fields.proofs.Faultless.{Passes}
-use Rattle.fields.proofs.Faultless.Passes.{none, one}
-use Rattle.books.specs.declared.record.Record.{Record}
-use Rattle.bookfile.specs.File.{record_form}
-use Rattle.bookfile.specs.Entered.{Left, record_values}
-use Rattle.bookfile.proofs.Cutting.{at_next, at_field, Fails, failed, passed, from_second, five_fields}
-use Rattle.bookfile.proofs.Cutting.Fails.{here, later}
+use Rattle.fields.specs.declared.parts.Placed.{Placed}
+use Rattle.fields.specs.Numerals.{Bytes}
+use Rattle.fields.specs.Kinds.{Kind}
+use Rattle.fields.specs.Kinds.Kind.{from_to}
+use Rattle.fields.specs.Checking.{Checked, check_field, check_fields}
+use Rattle.fields.specs.Views.{bytes_of}
+use Rattle.bookfile.specs.File.{record_form, money}
+use Rattle.bookfile.specs.Entered.{Left}
+use Rattle.bookfile.proofs.Cutting.{in_order, Cuts, after_letter}
+use Rattle.bookfile.proofs.Cutting.Cuts.{no_more, one_more}
 use Rattle.bookfile.proofs.entries.record_of.Goals as goal
+use Rattle.bookfile.proofs.entries.record_of.Goals.{After-cut-5}
 
-pub returns-in_err-next : goal.returns-in_err-next
-returns-in_err-next c =
-    let p = err_from_is_err_and c.from_residual-in_err-next.result c.from_residual-in_err-next.ensures.1 in
-    let k = c.args.fields.line in
-    let x = reported_field c.in_err-next.field-0.0 in
-    rw (p.1, p.2) (record {
-      read = λ fs l q n. failed k 2 (record_form c.args.sizes.conditions c.args.sizes.remedies c.args.sizes.parts) fs x (five_fields (λ hs. Left c.args.fields.rest.now hs → Fails k 2 (record_form c.args.sizes.conditions c.args.sizes.remedies c.args.sizes.parts) hs x)
-          (λ f g h i j l'. let a = from_second l' q in let b = at_next a c.cut.ensures.after (omega arith) in let d = at_next b c.cut-2.ensures.after (omega arith) in later (at_field a c.cut.ensures.field (from_to 0 (c.args.sizes.conditions - 1)) c.in_ok-condition.ensures.read) (later (at_field b c.cut-2.ensures.field (from_to 0 (c.args.sizes.remedies - 1)) c.in_ok-remedy.ensures.read) (here (at_field d c.cut-3.ensures.field (from_to 0 (c.args.sizes.conditions - 1)) c.in_err-next.ensures.read)))) fs n l);
-      fits = tt;
-    })
+-- what is answered of each field
+abbrev answer : Placed → Kind → Checked ℤ
+answer p t = check_field p.line p.place t (bytes_of p.field)
 
-pub returns-in_err-share : goal.returns-in_err-share
-returns-in_err-share c =
-    let p = err_from_is_err_and c.from_residual-in_err-share.result c.from_residual-in_err-share.ensures.1 in
-    let k = c.args.fields.line in
-    let x = reported_field c.in_err-share.field-0.0 in
-    rw (p.1, p.2) (record {
-      read = λ fs l q n. failed k 2 (record_form c.args.sizes.conditions c.args.sizes.remedies c.args.sizes.parts) fs x (five_fields (λ hs. Left c.args.fields.rest.now hs → Fails k 2 (record_form c.args.sizes.conditions c.args.sizes.remedies c.args.sizes.parts) hs x)
-          (λ f g h i j l'. let a = from_second l' q in let b = at_next a c.cut.ensures.after (omega arith) in let d = at_next b c.cut-2.ensures.after (omega arith) in let e = at_next d c.cut-3.ensures.after (omega arith) in later (at_field a c.cut.ensures.field (from_to 0 (c.args.sizes.conditions - 1)) c.in_ok-condition.ensures.read) (later (at_field b c.cut-2.ensures.field (from_to 0 (c.args.sizes.remedies - 1)) c.in_ok-remedy.ensures.read) (later (at_field d c.cut-3.ensures.field (from_to 0 (c.args.sizes.conditions - 1)) c.in_ok-next.ensures.read) (here (at_field e c.cut-4.ensures.field (from_to 1 c.args.sizes.parts) c.in_err-share.ensures.read))))) fs n l);
-      fits = tt;
-    })
+abbrev answers : After-cut-5 → List (Checked ℤ)
+answers c =
+    let z = c.args.sizes in
+    answer c.cut.result.0 (from_to 0 (z.conditions - 1)) ∷ answer c.cut-2.result.0 (from_to 0 (z.remedies - 1)) ∷ answer c.cut-3.result.0 (from_to 0 (z.conditions - 1)) ∷ answer c.cut-4.result.0 (from_to 1 z.parts) ∷ answer c.cut-5.result.0 money ∷ []
 
-pub returns-in_err-amount : goal.returns-in_err-amount
-returns-in_err-amount c =
-    let p = err_from_is_err_and c.from_residual-in_err-amount.result c.from_residual-in_err-amount.ensures.1 in
-    let k = c.args.fields.line in
-    let x = reported_field c.in_err-amount.field-0.0 in
-    rw (p.1, p.2) (record {
-      read = λ fs l q n. failed k 2 (record_form c.args.sizes.conditions c.args.sizes.remedies c.args.sizes.parts) fs x (five_fields (λ hs. Left c.args.fields.rest.now hs → Fails k 2 (record_form c.args.sizes.conditions c.args.sizes.remedies c.args.sizes.parts) hs x)
-          (λ f g h i j l'. let a = from_second l' q in let b = at_next a c.cut.ensures.after (omega arith) in let d = at_next b c.cut-2.ensures.after (omega arith) in let e = at_next d c.cut-3.ensures.after (omega arith) in let k = at_next e c.cut-4.ensures.after (omega arith) in later (at_field a c.cut.ensures.field (from_to 0 (c.args.sizes.conditions - 1)) c.in_ok-condition.ensures.read) (later (at_field b c.cut-2.ensures.field (from_to 0 (c.args.sizes.remedies - 1)) c.in_ok-remedy.ensures.read) (later (at_field d c.cut-3.ensures.field (from_to 0 (c.args.sizes.conditions - 1)) c.in_ok-next.ensures.read) (later (at_field e c.cut-4.ensures.field (from_to 1 c.args.sizes.parts) c.in_ok-share.ensures.read) (here (at_field k c.cut-5.ensures.field (either_way 1000000) c.in_err-amount.ensures.read)))))) fs n l);
-      fits = tt;
-    })
+checked : (c : After-cut-5) (fs : List Bytes) → Left c.args.fields.rest.now fs → c.args.fields.place ≡ 2 → length fs ≡ 5 → check_fields c.args.fields.line 2 (record_form c.args.sizes.conditions c.args.sizes.remedies c.args.sizes.parts) fs ≡ in_order (answers c)
+checked c fs =
+    let cuts : Cuts c.args.fields.line c.args.fields.place c.args.fields.rest.now (record_form c.args.sizes.conditions c.args.sizes.remedies c.args.sizes.parts) (answers c) = one_more c.cut.ensures.field c.cut.ensures.after (one_more c.cut-2.ensures.field c.cut-2.ensures.after (one_more c.cut-3.ensures.field c.cut-3.ensures.after (one_more c.cut-4.ensures.field c.cut-4.ensures.after (one_more c.cut-5.ensures.field c.cut-5.ensures.after no_more)))) in
+    after_letter cuts (omega arith) fs
 
-pub returns : goal.returns
-returns c =
-    let k = c.args.fields.line in
-    let f : SFits w64 c.in_ok-amount.amount = search rules in
-    let z : ℤ → Record = λ a. record { condition = c.in_ok-condition.field-0; remedy = c.in_ok-remedy.field-0; next = c.in_ok-next.field-0; share = c.in_ok-share.share; amount = a } in
-    let v = record_values (z c.in_ok-amount.amount) in
-    record {
-      read = λ fs l q n. subst (λ a. check_fields k 2 (record_form c.args.sizes.conditions c.args.sizes.remedies c.args.sizes.parts) fs ≡ good (record_values (z a))) (sym (to_z-of_z w64 _ f)) (passed k 2 (record_form c.args.sizes.conditions c.args.sizes.remedies c.args.sizes.parts) fs v (five_fields (λ hs. Left c.args.fields.rest.now hs → Passes k 2 (record_form c.args.sizes.conditions c.args.sizes.remedies c.args.sizes.parts) hs v)
-          (λ f g h i j l'. let a = from_second l' q in let b = at_next a c.cut.ensures.after (omega arith) in let d = at_next b c.cut-2.ensures.after (omega arith) in let e = at_next d c.cut-3.ensures.after (omega arith) in let k = at_next e c.cut-4.ensures.after (omega arith) in one (at_field a c.cut.ensures.field (from_to 0 (c.args.sizes.conditions - 1)) c.in_ok-condition.ensures.read) (one (at_field b c.cut-2.ensures.field (from_to 0 (c.args.sizes.remedies - 1)) c.in_ok-remedy.ensures.read) (one (at_field d c.cut-3.ensures.field (from_to 0 (c.args.sizes.conditions - 1)) c.in_ok-next.ensures.read) (one (at_field e c.cut-4.ensures.field (from_to 1 c.args.sizes.parts) c.in_ok-share.ensures.read) (one (at_field k c.cut-5.ensures.field (either_way 1000000) c.in_ok-amount.ensures.read) none))))) fs n l));
-      fits = search rules;
-    }
+pub returns-in_err-natural-3-clause-read : goal.returns-in_err-natural-3-clause-read
+returns-in_err-natural-3-clause-read c =
+    let p = err_from_is_err_and c.from_residual-in_err-natural-3.result c.from_residual-in_err-natural-3.ensures.1 in
+    rw (p.1, p.2) (λ fs l q n. checked (goal.at.returns-in_err-natural-3-clause-read c).After-cut-5 fs l q n ∙ rw (c.in_ok-natural.ensures.read, c.in_ok-natural-2.ensures.read, c.in_err-natural-3.ensures.read))
+
+pub returns-in_err-natural-4-clause-read : goal.returns-in_err-natural-4-clause-read
+returns-in_err-natural-4-clause-read c =
+    let p = err_from_is_err_and c.from_residual-in_err-natural-4.result c.from_residual-in_err-natural-4.ensures.1 in
+    rw (p.1, p.2) (λ fs l q n. checked (goal.at.returns-in_err-natural-4-clause-read c).After-cut-5 fs l q n ∙ rw (c.in_ok-natural.ensures.read, c.in_ok-natural-2.ensures.read, c.in_ok-natural-3.ensures.read, c.in_err-natural-4.ensures.read))
+
+pub returns-in_err-signed_number-clause-read : goal.returns-in_err-signed_number-clause-read
+returns-in_err-signed_number-clause-read c =
+    let p = err_from_is_err_and c.from_residual-in_err-signed_number.result c.from_residual-in_err-signed_number.ensures.1 in
+    rw (p.1, p.2) (λ fs l q n. checked (goal.at.returns-in_err-signed_number-clause-read c).After-cut-5 fs l q n ∙ rw (c.in_ok-natural.ensures.read, c.in_ok-natural-2.ensures.read, c.in_ok-natural-3.ensures.read, c.in_ok-natural-4.ensures.read, c.in_err-signed_number.ensures.read))
+
+pub returns-clause-read : goal.returns-clause-read
+returns-clause-read c =
+    let f : SFits w64 c.in_ok-signed_number.field-0 = search rules in
+    λ fs l q n. checked (goal.at.returns-clause-read c).After-cut-5 fs l q n ∙ rw (c.in_ok-natural.ensures.read, c.in_ok-natural-2.ensures.read, c.in_ok-natural-3.ensures.read, c.in_ok-natural-4.ensures.read, c.in_ok-signed_number.ensures.read, to_z-of_z w64 c.in_ok-signed_number.field-0 f)

@@ -2,8 +2,8 @@ use Rattle.std.proofs.Common.{length}
 use Rattle.bookfile.specs.Advance.{ComeTo}
 use Rattle.bookfile.proofs.read.check.Given as goal
 
-abbrev pub invariant-loop-entry : goal.invariant-loop-entry
-invariant-loop-entry l = ComeTo l.records l.worths l.bytes l.progress.conditions l.progress.remedies l.progress.parts l.progress.least l.progress.count l.progress.worths l.rest
+abbrev pub invariant-loop-reader : goal.invariant-loop-reader
+invariant-loop-reader l = ComeTo l.fn.room l.bytes l.reader.progress l.reader.rest.now
 
-abbrev pub decreases-loop-entry : goal.decreases-loop-entry
-decreases-loop-entry l = length l.rest
+abbrev pub decreases-loop-reader : goal.decreases-loop-reader
+decreases-loop-reader l = length l.reader.rest.now

@@ -1,0 +1,70 @@
+// Reading a book file line by line.
+ghost use Rattle.std.specs.Prelude.{◌≡◌, ◌<◌, ◌≤◌, length, IfOk, MatchResult};
+ghost use Rattle.fields.specs.Numerals.{Bytes};
+ghost use Rattle.bookfile.specs.declared.progress.Room.{Room};
+ghost use Rattle.bookfile.specs.Advance.{ComeTo, ComeToEnd, CameTo, Declined, Stands};
+ghost use Rattle.bookfile.specs.Entries.{Readable};
+ghost use Rattle.bookfile.specs.FileCalls.{CheckAnswers};
+
+use super::entries::{Entry, entry_of, sizes_of};
+use super::faults::FileFault;
+use super::progress::{Progress, Room};
+use super::read::ReadBook;
+use fields::lines::cut_line;
+
+// What stands of a file, and the bytes of its other lines.
+#[derive(Clone, Copy)]
+pub(crate) struct Reader<'a> {
+    progress: Progress,
+    rest: &'a [u8],
+}
+
+impl<'a> Reader<'a> {
+    // After the first line.
+    pub(crate) fn begun(bytes: &'a [u8], room: Room) -> Result<Reader<'a>, FileFault>
+        ensures { MatchResult result (λ r. ComeTo room bytes.now r.progress r.rest.now) (Declined room bytes.now) }
+    {
+        let (first, rest) = cut_line(1, bytes)?;
+        let progress = Progress::begun(sizes_of(first)?, room);
+        Ok(Reader { progress, rest })
+    }
+
+    // How many records stand.
+    pub(crate) fn count(&self) -> usize
+        ensures { result ≡ self.now.progress.count }
+    {
+        self.progress.count
+    }
+
+    // What the next line says.
+    pub(crate) fn next(&mut self) -> Result<Entry, FileFault>
+        ensures read { (room : Room) (bs : Bytes) → ComeTo room bs self.old.progress self.old.rest.now → MatchResult result (λ y. CameTo room bs y self.new.progress self.new.rest.now) (Declined room bs) }
+        ensures stands { IfOk result (λ y. Stands y self.new.progress) }
+        ensures room { IfOk result (λ _. self.new.progress.room ≡ self.old.progress.room) }
+        ensures shorter { IfOk result (λ _. length self.new.rest.now < length self.old.rest.now) }
+    {
+        let (line, rest) = cut_line(self.progress.line(), self.rest)?;
+        let entry = entry_of(self.progress.sizes, self.progress.worths, line)?;
+        self.progress.enter(&entry)?;
+        self.rest = rest;
+        Ok(entry)
+    }
+
+    // What the file holds, after its last line.
+    pub(crate) fn ended(&self) -> Result<ReadBook, FileFault>
+        requires { self.now.progress.sizes.conditions ≤ self.now.progress.worths }
+        ensures answer { (room : Room) (bs : Bytes) → ComeToEnd room bs self.now.progress self.now.rest.now → CheckAnswers room.records room.worths bs result }
+        ensures readable { IfOk result (λ b. Readable b self.now.progress.room.records self.now.progress.room.worths) }
+    {
+        if self.rest.is_empty() {
+            Ok(ReadBook {
+                sizes: self.progress.sizes,
+                count: self.progress.count,
+            })
+        } else {
+            Err(FileFault::Surplus {
+                line: self.progress.line() + 1,
+            })
+        }
+    }
+}
