@@ -48,15 +48,13 @@ pub fn quote(bytes: &[u8], tables: &mut Tables) -> Result<Quote, Fault>
         tables.records.as_mut_slice(),
         tables.worths.as_mut_slice(),
     )?;
-    let conditions = found.conditions;
-    let count = found.count;
-    let mut book = ListBook::blank();
-    book.remake(
+    let conditions = found.sizes.conditions;
+    let book = ListBook::new(
         conditions,
-        found.remedies,
-        found.parts,
-        &tables.records.as_slice()[0..count],
-        &tables.worths.as_slice()[0..conditions],
+        found.sizes.remedies,
+        found.sizes.parts,
+        &tables.records.as_slice()[..found.count],
+        &tables.worths.as_slice()[..conditions],
     )?;
     let entries = planned(
         &book,

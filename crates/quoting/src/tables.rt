@@ -35,14 +35,7 @@ pub struct Quote {
 impl Tables {
     // All at 0, as long as the type says. Whether there is memory for them is open.
     pub fn new(heap: Global) -> Result<Tables, AllocError> {
-        let blank = Record {
-            condition: 0,
-            remedy: 0,
-            next: 0,
-            share: 0,
-            amount: 0,
-        };
-        let records = vec![in heap; blank; RECORDS]?;
+        let records = vec![in heap; Record::default(); RECORDS]?;
         let worths = vec![in heap; 0; CONDITIONS]?;
         let values = vec![in heap; 0; (VISITS + 1) * CONDITIONS]?;
         let remedies = vec![in heap; 0; VISITS * CONDITIONS]?;
