@@ -1,4 +1,3 @@
-pub mod Rows
 pub mod Steps
 pub mod Bests
 pub mod Tables

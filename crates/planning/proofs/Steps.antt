@@ -6,7 +6,7 @@ use Rattle.model.specs.Rows.{outcomes}
 use Rattle.model.specs.declared.row.Outcome.{Outcome}
 use Rattle.criteria.specs.Criteria.{Ops}
 use Rattle.criteria.specs.Policies.{entered}
-use Rattle.planning.proofs.Rows.{none_yet, folded_outcomes, row_each}
+use Rattle.checks.proofs.Rows.{none_yet, folded_outcomes, row_each}
 
 -- one outcome more in an account
 abbrev pub enter_one : {V A : Type 0} → Ops V A → (left parts : ℕ) → (ℕ → V) → A → Outcome → A

@@ -2,7 +2,7 @@ use Rattle.std.proofs.Common.{◌<◌, length, get_or, ap, ◌∙◌, arith, w64
 use Rattle.std.proofs.lemmas.Int.{to_z-of_z}
 use Rattle.std.proofs.lemmas.List.{get_or_read, take_all}
 use Rattle.planning.specs.Tables.{at}
-use Rattle.planning.proofs.Rows.{none_yet}
+use Rattle.checks.proofs.Rows.{none_yet}
 use Rattle.planning.proofs.Steps.{account_of, account_more, account_all, next_below}
 use Rattle.planning.proofs.stage.Stage.account.Goals as goal
 
