@@ -34,6 +34,7 @@ pub(crate) fn first_stuck<B: Book>(book: &B, visits: usize) -> Option<(usize, us
     None
 }
 
+// The sum of the shares.
 fn total_share(outcomes: &[Outcome]) -> u32
     requires { sum_by (λ x. x.share) outcomes.now < 2 ^ 32 }
     ensures { result ≡ sum_by (λ x. x.share) outcomes.now }
