@@ -3,7 +3,7 @@ use Rattle.quoting.proofs.quote.quote.Goals as goal
 
 pub invariant_of-result : goal.invariant_of-result
 invariant_of-result c =
-    let sizes = c.in_ok-found.value.sizes.fit in
+    let sizes = c.in_ok-found.found.sizes.fit in
     let book = c.in_ok-book.ensures.1 in
     let few = subst (λ (x : ℕ). x ≤ 32) (sym book.conditions) sizes.few_conditions in record {
       some_condition = sizes.some_condition;
