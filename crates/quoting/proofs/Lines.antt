@@ -14,7 +14,7 @@ use Rattle.std.specs.declared.iter.Take.{Take}
 use Rattle.std.specs.declared.iter.Zip.{Zip}
 use Rattle.std.specs.List.{zip, enumerate_from}
 use Rattle.std.specs.Fmt.{decimal, signed_decimal}
-use Rattle.fields.specs.Numerals.{Bytes, numeral, signed}
+use Rattle.fields.specs.Numerals.{Bytes, numeral}
 use Rattle.fields.specs.Lines.{line}
 use Rattle.fields.proofs.Printed.{numeral_printed, signed_printed}
 use Rattle.quoting.specs.Printing.{plan_line, refusal_line}
@@ -22,23 +22,17 @@ use Rattle.quoting.specs.Printing.{plan_line, refusal_line}
 regroup : (t a b c d e : Bytes) → a ++ (t ++ (b ++ (t ++ (c ++ (t ++ (d ++ e)))))) ≡ (a ++ (t ++ (b ++ (t ++ (c ++ (t ++ d)))))) ++ e
 regroup t a b c d e = simp append_assoc
 
+line_of_four : (l : ℕ) (a b c d a' b' c' d' : Bytes) → a ≡ a' → b ≡ b' → c ≡ c' → d ≡ d' →
+    l ∷ 9 ∷ (a ++ (9 ∷ (b ++ (9 ∷ (c ++ (9 ∷ (d ++ (10 ∷ [])))))))) ≡ line l (a' ∷ b' ∷ c' ∷ d' ∷ [])
+line_of_four l a b c d a' b' c' d' p q r s = let e = regroup (9 ∷ []) a b c d (10 ∷ []) in cc
+
 pub refusal_printed : (n : ℕ) (p : ℕ × ℕ × ℕ) → n < 2 ^ 64 → p.0 < 2 ^ 64 → p.1 < 2 ^ 64 → p.2 < 2 ^ 64 →
     78 ∷ 9 ∷ (decimal n ++ (9 ∷ (decimal p.0 ++ (9 ∷ (decimal p.1 ++ (9 ∷ (decimal p.2 ++ (10 ∷ [])))))))) ≡ refusal_line n p
-refusal_printed n p hn h0 h1 h2 =
-    ap (λ bs. 78 ∷ 9 ∷ (bs ++ (9 ∷ (decimal p.0 ++ (9 ∷ (decimal p.1 ++ (9 ∷ (decimal p.2 ++ (10 ∷ []))))))))) (numeral_printed n hn)
-    ∙ ap (λ bs. 78 ∷ 9 ∷ (numeral n ++ (9 ∷ (bs ++ (9 ∷ (decimal p.1 ++ (9 ∷ (decimal p.2 ++ (10 ∷ []))))))))) (numeral_printed p.0 h0)
-    ∙ ap (λ bs. 78 ∷ 9 ∷ (numeral n ++ (9 ∷ (numeral p.0 ++ (9 ∷ (bs ++ (9 ∷ (decimal p.2 ++ (10 ∷ []))))))))) (numeral_printed p.1 h1)
-    ∙ ap (λ bs. 78 ∷ 9 ∷ (numeral n ++ (9 ∷ (numeral p.0 ++ (9 ∷ (numeral p.1 ++ (9 ∷ (bs ++ (10 ∷ []))))))))) (numeral_printed p.2 h2)
-    ∙ ap (λ bs. 78 ∷ 9 ∷ bs) (regroup (9 ∷ []) (numeral n) (numeral p.0) (numeral p.1) (numeral p.2) (10 ∷ []))
+refusal_printed n p hn h0 h1 h2 = line_of_four 78 _ _ _ _ _ _ _ _ (numeral_printed n hn) (numeral_printed p.0 h0) (numeral_printed p.1 h1) (numeral_printed p.2 h2)
 
 pub entry_printed : (n s r : ℕ) (v : ℤ) → n < 2 ^ 64 → s < 2 ^ 64 → r < 2 ^ 64 → SFits w64 v →
     80 ∷ 9 ∷ (decimal n ++ (9 ∷ (decimal s ++ (9 ∷ (decimal r ++ (9 ∷ (signed_decimal v ++ (10 ∷ [])))))))) ≡ plan_line n s r v
-entry_printed n s r v hn hs hr hv =
-    ap (λ bs. 80 ∷ 9 ∷ (bs ++ (9 ∷ (decimal s ++ (9 ∷ (decimal r ++ (9 ∷ (signed_decimal v ++ (10 ∷ []))))))))) (numeral_printed n hn)
-    ∙ ap (λ bs. 80 ∷ 9 ∷ (numeral n ++ (9 ∷ (bs ++ (9 ∷ (decimal r ++ (9 ∷ (signed_decimal v ++ (10 ∷ []))))))))) (numeral_printed s hs)
-    ∙ ap (λ bs. 80 ∷ 9 ∷ (numeral n ++ (9 ∷ (numeral s ++ (9 ∷ (bs ++ (9 ∷ (signed_decimal v ++ (10 ∷ []))))))))) (numeral_printed r hr)
-    ∙ ap (λ bs. 80 ∷ 9 ∷ (numeral n ++ (9 ∷ (numeral s ++ (9 ∷ (numeral r ++ (9 ∷ (bs ++ (10 ∷ []))))))))) (signed_printed v (Fits-nat_abs {w' = w64} tt hv).fits)
-    ∙ ap (λ bs. 80 ∷ 9 ∷ bs) (regroup (9 ∷ []) (numeral n) (numeral s) (numeral r) (signed v) (10 ∷ []))
+entry_printed n s r v hn hs hr hv = line_of_four 80 _ _ _ _ _ _ _ _ (numeral_printed n hn) (numeral_printed s hs) (numeral_printed r hr) (signed_printed v (Fits-nat_abs {w' = w64} tt hv).fits)
 
 pub count_printed : (n : ℕ) → n < 2 ^ 64 → 84 ∷ 9 ∷ (decimal n ++ (10 ∷ [])) ≡ line 84 (numeral n ∷ [])
 count_printed n h = ap (λ bs. 84 ∷ 9 ∷ (bs ++ (10 ∷ []))) (numeral_printed n h)
