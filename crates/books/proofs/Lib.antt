@@ -5,4 +5,3 @@ pub mod Places
 pub mod Positives
 pub mod Once
 pub mod Rows
-pub mod Starts

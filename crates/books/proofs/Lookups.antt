@@ -3,7 +3,7 @@ use Rattle.std.proofs.Common.{◌≡◌, ℕ, zero, suc, ◌<◌, ◌≤◌, tru
 use Rattle.std.proofs.lemmas.Bool.{cond-true, cond-false, cases_Bool, and_parts, and_from, eqb-true, eq-eqb, cases_lt, or_left, or_right, or_from, lt-ltb, le-ltb}
 use Rattle.books.specs.declared.record.Record.{Record}
 use Rattle.books.specs.Alike.{some_above}
-use Rattle.books.specs.Entries.{no_record, AllPlaced, rank, key, KeysRise}
+use Rattle.books.specs.Entries.{no_record, AllPlaced, StandBefore, rank, KeysRise}
 use Rattle.books.specs.Listed.{about, listed}
 
 pub listed_none : (es : List Record) (s x j : ℕ) → ((i : ℕ) → i < length es → about (get_or es i no_record) s x j ≡ false) → listed es s x j ≡ no_record
@@ -34,13 +34,12 @@ pub listed_hit : (es : List Record) (s x j i : ℕ) → KeysRise es → i < leng
 listed_hit es s x j i up l a b d =
     listed_at es s x j i l (λ k m. about_not (get_or es k no_record) s x j (λ p. let u = up k i m l in omega arith)) (about_from (get_or es i no_record) s x j a b d)
 
--- the records before m stand before the place, the others do not
-module _ (es : List Record) (m w : ℕ) (up : KeysRise es) (below : (i : ℕ) → i < m → key (get_or es i no_record) < w) (above : (i : ℕ) → m ≤ i → i < length es → w ≤ key (get_or es i no_record)) where
+module _ (es : List Record) (m w : ℕ) (up : KeysRise es) (stand : StandBefore es w m) where
   pub listed_miss : (s x j : ℕ) → w ≡ rank s x j → (m < length es → ((get_or es m no_record).condition ≡ s) × ((get_or es m no_record).remedy ≡ x) × ((get_or es m no_record).next ≡ j) → ⊥) → listed es s x j ≡ no_record
   listed_miss s x j e away = listed_none es s x j (λ i l. about_not (get_or es i no_record) s x j (λ p.
-      ⊎_elim (λ b. let u = below i b in omega arith)
+      ⊎_elim (λ b. let u = stand.below i b in omega arith)
       (λ b. ⊎_elim
-      (λ (a : m < i). let u = up m i a l in let v = above m (omega arith) (omega arith) in omega arith)
+      (λ (a : m < i). let u = up m i a l in let v = stand.above m (omega arith) (omega arith) in omega arith)
       (λ (a : i ≤ m). let same : i ≡ m = omega arith in let P : ℕ → Type 0 = λ k. ((get_or es k no_record).condition ≡ s) × ((get_or es k no_record).remedy ≡ x) × ((get_or es k no_record).next ≡ j) in away (omega arith) (subst P same p))
       (cases_lt m i))
       (cases_lt i m)))
@@ -48,9 +47,9 @@ module _ (es : List Record) (m w : ℕ) (up : KeysRise es) (below : (i : ℕ) �
   -- no record of a row that the record at m is not of
   pub row_miss : (s x j : ℕ) → w ≡ rank s x 0 → AllPlaced 32 8 es → (m < length es → ((get_or es m no_record).condition ≡ s) × ((get_or es m no_record).remedy ≡ x) → ⊥) → listed es s x j ≡ no_record
   row_miss s x j e placed away = listed_none es s x j (λ i l. about_not (get_or es i no_record) s x j (λ p.
-      ⊎_elim (λ b. let u = below i b in omega arith)
+      ⊎_elim (λ b. let u = stand.below i b in omega arith)
       (λ b. ⊎_elim
-      (λ (a : m < i). let u = up m i a l in let v = above m (omega arith) (omega arith) in let q = placed m (omega arith) in let t = placed i l in away (omega arith) (omega arith, omega arith))
+      (λ (a : m < i). let u = up m i a l in let v = stand.above m (omega arith) (omega arith) in let q = placed m (omega arith) in let t = placed i l in away (omega arith) (omega arith, omega arith))
       (λ (a : i ≤ m). let same : i ≡ m = omega arith in let P : ℕ → Type 0 = λ k. ((get_or es k no_record).condition ≡ s) × ((get_or es k no_record).remedy ≡ x) in away (omega arith) (subst P same (p.0, p.1)))
       (cases_lt m i))
       (cases_lt i m)))

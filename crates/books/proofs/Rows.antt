@@ -49,64 +49,64 @@ module _ (book : ListBook) (n s x : ℕ) where
   -- outside the sizes a row has no outcome
   pub outside : inside book.sizes.conditions book.sizes.remedies n s x ≡ false → [] ≡ outcomes (list_means book) n s x book.sizes.conditions
   outside none =
-      skip_to (list_means book) n s x book.sizes.conditions 0 (omega arith) (λ j a l. ap (λ (b : Bool). cond (b && ltb j book.sizes.conditions) (listed book.records.now s x j).share 0) none)
+      skip_to (list_means book) n s x book.sizes.conditions 0 (omega arith) (λ j a l. ap (λ (b : Bool). cond (b && ltb j book.sizes.conditions) (listed book.listing.records.now s x j).share 0) none)
 
   -- the first `at` records stand before next condition j of the row, the others do not
-  module _ (some : inside book.sizes.conditions book.sizes.remedies n s x ≡ true) (at j : ℕ) (below : (i : ℕ) → i < at → key (get_or book.records.now i no_record) < rank s x j) (above : (i : ℕ) → at ≤ i → i < length book.records.now → rank s x j ≤ key (get_or book.records.now i no_record)) where
+  module _ (some : inside book.sizes.conditions book.sizes.remedies n s x ≡ true) (at j : ℕ) (below : (i : ℕ) → i < at → key (get_or book.listing.records.now i no_record) < rank s x j) (above : (i : ℕ) → at ≤ i → i < length book.listing.records.now → rank s x j ≤ key (get_or book.listing.records.now i no_record)) where
     here : (k : ℕ) → k < book.sizes.conditions → (inside book.sizes.conditions book.sizes.remedies n s x && ltb k book.sizes.conditions) ≡ true
     here k l = and_from (inside book.sizes.conditions book.sizes.remedies n s x) (ltb k book.sizes.conditions) some (lt-ltb k book.sizes.conditions l)
 
-    share_is : (k : ℕ) → k < book.sizes.conditions → (list_means book).share n s x k ≡ (listed book.records.now s x k).share
-    share_is k l = cond-true (inside book.sizes.conditions book.sizes.remedies n s x && ltb k book.sizes.conditions) (listed book.records.now s x k).share 0 (here k l)
+    share_is : (k : ℕ) → k < book.sizes.conditions → (list_means book).share n s x k ≡ (listed book.listing.records.now s x k).share
+    share_is k l = cond-true (inside book.sizes.conditions book.sizes.remedies n s x && ltb k book.sizes.conditions) (listed book.listing.records.now s x k).share 0 (here k l)
 
-    amount_is : (k : ℕ) → k < book.sizes.conditions → (list_means book).amount n s x k ≡ (listed book.records.now s x k).amount
-    amount_is k l = cond-true (inside book.sizes.conditions book.sizes.remedies n s x && ltb k book.sizes.conditions) (listed book.records.now s x k).amount (pos 0) (here k l)
+    amount_is : (k : ℕ) → k < book.sizes.conditions → (list_means book).amount n s x k ≡ (listed book.listing.records.now s x k).amount
+    amount_is k l = cond-true (inside book.sizes.conditions book.sizes.remedies n s x && ltb k book.sizes.conditions) (listed book.listing.records.now s x k).amount (pos 0) (here k l)
 
     -- a place that the record there does not stand before, the later ones do not either
-    from_there : (w : ℕ) → (at < length book.records.now → w ≤ key (get_or book.records.now at no_record)) → (i : ℕ) → at ≤ i → i < length book.records.now → w ≤ key (get_or book.records.now i no_record)
+    from_there : (w : ℕ) → (at < length book.listing.records.now → w ≤ key (get_or book.listing.records.now at no_record)) → (i : ℕ) → at ≤ i → i < length book.listing.records.now → w ≤ key (get_or book.listing.records.now i no_record)
     from_there w first i d m =
         ⊎_elim
-        (λ (b : at < i). let u = first (omega arith) in let v = book.records_rise at i b m in omega arith)
-        (λ (b : i ≤ at). let same : at ≡ i = omega arith in subst (λ (k : ℕ). w ≤ key (get_or book.records.now k no_record)) same (first (omega arith)))
+        (λ (b : at < i). let u = first (omega arith) in let v = book.listing.rise at i b m in omega arith)
+        (λ (b : i ≤ at). let same : at ≡ i = omega arith in subst (λ (k : ℕ). w ≤ key (get_or book.listing.records.now k no_record)) same (first (omega arith)))
         (cases_lt at i)
 
     -- no share from j to a next condition that the record there does not stand before
-    skipped : (t : ℕ) → j ≤ t → t ≤ book.sizes.conditions → (at < length book.records.now → rank s x t ≤ key (get_or book.records.now at no_record)) → outcomes (list_means book) n s x j ≡ outcomes (list_means book) n s x t
+    skipped : (t : ℕ) → j ≤ t → t ≤ book.sizes.conditions → (at < length book.listing.records.now → rank s x t ≤ key (get_or book.listing.records.now at no_record)) → outcomes (list_means book) n s x j ≡ outcomes (list_means book) n s x t
     skipped t l m first =
-        skip_to (list_means book) n s x t j l (λ i d q. share_is i (omega arith) ∙ ap (λ (f : Record). f.share) (gap book.records.now at (rank s x j) (rank s x t) s x i below (from_there (rank s x t) first) (omega arith) (omega arith)))
+        skip_to (list_means book) n s x t j l (λ i d q. share_is i (omega arith) ∙ ap (λ (f : Record). f.share) (gap book.listing.records.now at (rank s x j) (rank s x t) s x i below (from_there (rank s x t) first) (omega arith) (omega arith)))
 
     -- the record there is of another row: the row is at its end
-    pub finished : j ≤ book.sizes.conditions → (at < length book.records.now → ((get_or book.records.now at no_record).condition ≡ s) × ((get_or book.records.now at no_record).remedy ≡ x) → ⊥) → outcomes (list_means book) n s x j ≡ outcomes (list_means book) n s x book.sizes.conditions
+    pub finished : j ≤ book.sizes.conditions → (at < length book.listing.records.now → ((get_or book.listing.records.now at no_record).condition ≡ s) × ((get_or book.listing.records.now at no_record).remedy ≡ x) → ⊥) → outcomes (list_means book) n s x j ≡ outcomes (list_means book) n s x book.sizes.conditions
     finished l away =
         let few = book.sizes.fit.few_conditions in
         let few_remedies = book.sizes.fit.few_remedies in
         let xl = ltb-true x book.sizes.remedies (and_parts _ (ltb x book.sizes.remedies) some).1 in
-        skipped book.sizes.conditions l (omega arith) (λ m. let p = book.records_placed at m in let q = past_row (get_or book.records.now at no_record) s x j (omega arith) (omega arith) (omega arith) (above at (omega arith) m) (away m) in omega arith)
+        skipped book.sizes.conditions l (omega arith) (λ m. let p = book.records_placed at m in let q = past_row (get_or book.listing.records.now at no_record) s x j (omega arith) (omega arith) (omega arith) (above at (omega arith) m) (away m) in omega arith)
 
     -- it is of the row: one outcome more
-    module _ (l : at < length book.records.now) (a : (get_or book.records.now at no_record).condition ≡ s) (b : (get_or book.records.now at no_record).remedy ≡ x) where
-      pub later : j ≤ (get_or book.records.now at no_record).next
+    module _ (l : at < length book.listing.records.now) (a : (get_or book.listing.records.now at no_record).condition ≡ s) (b : (get_or book.listing.records.now at no_record).remedy ≡ x) where
+      pub later : j ≤ (get_or book.listing.records.now at no_record).next
       later = let u = above at (omega arith) l in omega arith
 
-      pub written : (row : List Outcome) (o : Outcome) → o ≡ outcome_of (get_or book.records.now at no_record) → row ≡ outcomes (list_means book) n s x j → row ++ (o ∷ []) ≡ outcomes (list_means book) n s x ((get_or book.records.now at no_record).next + 1)
+      pub written : (row : List Outcome) (o : Outcome) → o ≡ outcome_of (get_or book.listing.records.now at no_record) → row ≡ outcomes (list_means book) n s x j → row ++ (o ∷ []) ≡ outcomes (list_means book) n s x ((get_or book.listing.records.now at no_record).next + 1)
       written row o told so =
-          let t = (get_or book.records.now at no_record).next in
+          let t = (get_or book.listing.records.now at no_record).next in
           let tl = (book.records_placed at l).2 in
-          let hit : listed book.records.now s x t ≡ get_or book.records.now at no_record = listed_hit book.records.now s x t at book.records_rise l a b refl in
-          let share : (get_or book.records.now at no_record).share ≡ (list_means book).share n s x t = sym (share_is t tl ∙ ap (λ (f : Record). f.share) hit) in
-          let gain : (get_or book.records.now at no_record).amount ≡ (list_means book).amount n s x t = sym (amount_is t tl ∙ ap (λ (f : Record). f.amount) hit) in
+          let hit : listed book.listing.records.now s x t ≡ get_or book.listing.records.now at no_record = listed_hit book.listing.records.now s x t at book.listing.rise l a b refl in
+          let share : (get_or book.listing.records.now at no_record).share ≡ (list_means book).share n s x t = sym (share_is t tl ∙ ap (λ (f : Record). f.share) hit) in
+          let gain : (get_or book.listing.records.now at no_record).amount ≡ (list_means book).amount n s x t = sym (amount_is t tl ∙ ap (λ (f : Record). f.amount) hit) in
           let same : o ≡ outcome (list_means book) n s x t = told ∙ (λ i. record { next = t; share = share i; amount = gain i }) in
           ap (λ (xs : List Outcome). xs ++ (o ∷ [])) (so ∙ skipped t later (omega arith) (λ m. omega arith))
           ∙ ap (λ (y : Outcome). outcomes (list_means book) n s x t ++ (y ∷ [])) same
           ∙ listed_more (list_means book) n s x t (subst (λ (k : ℕ). 0 < k) share (book.records_valued at l).0)
 
-      pub below_more : (i : ℕ) → i < at + 1 → key (get_or book.records.now i no_record) < rank s x ((get_or book.records.now at no_record).next + 1)
+      pub below_more : (i : ℕ) → i < at + 1 → key (get_or book.listing.records.now i no_record) < rank s x ((get_or book.listing.records.now at no_record).next + 1)
       below_more i m =
           let u = later in
           ⊎_elim
           (λ (d : i < at). let v = below i d in omega arith)
-          (λ (d : at ≤ i). let same : at ≡ i = omega arith in subst (λ (k : ℕ). key (get_or book.records.now k no_record) < rank s x ((get_or book.records.now at no_record).next + 1)) same (omega arith))
+          (λ (d : at ≤ i). let same : at ≡ i = omega arith in subst (λ (k : ℕ). key (get_or book.listing.records.now k no_record) < rank s x ((get_or book.listing.records.now at no_record).next + 1)) same (omega arith))
           (cases_lt i at)
 
-      pub above_more : (i : ℕ) → at + 1 ≤ i → i < length book.records.now → rank s x ((get_or book.records.now at no_record).next + 1) ≤ key (get_or book.records.now i no_record)
-      above_more i m d = let v = book.records_rise at i (omega arith) d in omega arith
+      pub above_more : (i : ℕ) → at + 1 ≤ i → i < length book.listing.records.now → rank s x ((get_or book.listing.records.now at no_record).next + 1) ≤ key (get_or book.listing.records.now i no_record)
+      above_more i m d = let v = book.listing.rise at i (omega arith) d in omega arith

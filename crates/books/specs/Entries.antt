@@ -51,14 +51,13 @@ key e = rank e.condition e.remedy e.next
 abbrev pub KeysRise : List Record → Type 0
 KeysRise es = (i j : ℕ) → i < j → j < length es → key (slice_index_or es i no_record) < key (slice_index_or es j no_record)
 
--- of the first n rows, a row being a condition and a remedy, in order 8 × condition + remedy: starts has how
--- many records stand before each
-abbrev pub StartsBelow : (n : ℕ) → List Record → (starts : List ℕ) → Type 0
-StartsBelow n es starts = (k i : ℕ) → k < n → i < slice_index starts k → key (slice_index_or es i no_record) < k * 32
+-- the first m of the records stand before the places of this rank and above, the others do not
+pub record StandBefore (es : List Record) (rank m : ℕ) : Type 0 where
+  pub within : m ≤ length es
+  pub below : (i : ℕ) → i < m → key (slice_index_or es i no_record) < rank
+  pub above : (i : ℕ) → m ≤ i → i < length es → rank ≤ key (slice_index_or es i no_record)
 
-abbrev pub StartsAbove : (n : ℕ) → List Record → (starts : List ℕ) → Type 0
-StartsAbove n es starts = (k i : ℕ) → k < n → (slice_index starts k ≤ i) × (i < length es) → k * 32 ≤ key (slice_index_or es i no_record)
-
--- none starts past the end of the records
-abbrev pub StartsWithin : (n : ℕ) → List Record → (starts : List ℕ) → Type 0
-StartsWithin n es starts = (k : ℕ) → k < n → slice_index starts k ≤ length es
+-- of each row, a row being a condition and a remedy, in order 8 × condition + remedy: starts has how many
+-- records stand before it
+abbrev pub RowsStart : List Record → (starts : List ℕ) → Type 0
+RowsStart es starts = (k : ℕ) → k < 256 → StandBefore es (k * 32) (slice_index starts k)

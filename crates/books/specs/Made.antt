@@ -14,7 +14,7 @@ pub record OfList (c r p : ℕ) (es : List Record) (ws : List ℤ) (b : ListBook
   pub conditions : b.sizes.conditions ≡ c
   pub remedies : b.sizes.remedies ≡ r
   pub parts : b.sizes.parts ≡ p
-  pub records : b.records.now ≡ es
+  pub records : b.listing.records.now ≡ es
   pub worths : b.worths.now ≡ ws
   pub meaning : list_means b ≡ list_model c r p es ws
 

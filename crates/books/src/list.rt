@@ -1,10 +1,11 @@
 ghost use Rattle.std.specs.Prelude.{◌≡◌, length};
-ghost use Rattle.books.specs.Entries.{AllPlaced, AllValued, KeysRise, AllSmall, StartsWithin, StartsBelow, StartsAbove};
+ghost use Rattle.books.specs.Entries.{AllPlaced, AllValued, AllSmall, RowsStart};
 
 mod answers;
+mod listing;
 mod making;
 
-use super::record::Record;
+use self::listing::Listing;
 use super::sizes::Sizes;
 
 // A book that lists what may happen: records rising by condition, remedy and next condition, and the
@@ -13,15 +14,12 @@ use super::sizes::Sizes;
 #[derive(Clone, Copy)]
 pub struct ListBook<'a> {
     sizes: Sizes,
-    records: &'a [Record],
+    listing: Listing<'a>,
     worths: &'a [i64],
     starts: [usize; 256],
     ghost worths_long: { length worths.now ≡ sizes.conditions },
-    ghost records_placed: { AllPlaced sizes.conditions sizes.remedies records.now },
-    ghost records_valued: { AllValued sizes.parts records.now },
-    ghost records_rise: { KeysRise records.now },
+    ghost records_placed: { AllPlaced sizes.conditions sizes.remedies listing.records.now },
+    ghost records_valued: { AllValued sizes.parts listing.records.now },
     ghost worths_small: { AllSmall worths.now },
-    ghost starts_within: { StartsWithin 256 records.now starts },
-    ghost starts_below: { StartsBelow 256 records.now starts },
-    ghost starts_above: { StartsAbove 256 records.now starts },
+    ghost rows_start: { RowsStart listing.records.now starts },
 }

@@ -1,11 +1,11 @@
 // Making a list book.
 ghost use Rattle.std.specs.Prelude.{[], ◌∷◌, length, pos, ◌<◌, Decides};
-ghost use Rattle.books.specs.Entries.{RecordFits, Rising, AllPlaced, KeysRise, StartsWithin, StartsBelow, StartsAbove};
+ghost use Rattle.books.specs.Entries.{RecordFits, Rising};
 ghost use Rattle.books.specs.Making.{FirstFailing, Entered, ListChecked};
 ghost use Rattle.books.specs.Made.{OfList, ListNew, ListMade};
 
 use super::ListBook;
-use super::answers::before;
+use super::listing::Listing;
 use crate::limits::{first_large, is_small};
 use crate::record::Record;
 use crate::refusal::{MakingRefusal, Table};
@@ -68,21 +68,6 @@ fn check(sizes: Sizes, records: &[Record], worths: &[i64]) -> Result<(), MakingR
     Ok(())
 }
 
-// How many of the records stand before each condition and remedy.
-fn starts_of(records: &[Record]) -> [usize; 256]
-    requires placed { AllPlaced 32 8 records.now }
-    requires rise { KeysRise records.now }
-    ensures within { StartsWithin 256 records.now result }
-    ensures below { StartsBelow 256 records.now result }
-    ensures above { StartsAbove 256 records.now result }
-{
-    let mut starts = [0; 256];
-    for row in 0..256 {
-        starts[row] = before(records, row * 32);
-    }
-    starts
-}
-
 impl<'a> ListBook<'a> {
     // The smallest book: nothing listed, worth 0.
     pub fn blank() -> ListBook<'a>
@@ -94,7 +79,7 @@ impl<'a> ListBook<'a> {
                 remedies: 1,
                 parts: 1,
             },
-            records: &[],
+            listing: Listing { records: &[] },
             worths: &[0],
             starts: [0; 256],
         }
@@ -112,11 +97,12 @@ impl<'a> ListBook<'a> {
     {
         let sizes = Sizes::new(conditions, remedies, parts).ok_or(MakingRefusal::Size)?;
         check(sizes, records, worths)?;
+        let listing = Listing { records };
         Ok(ListBook {
             sizes,
-            records,
+            listing,
             worths,
-            starts: starts_of(records),
+            starts: listing.starts(),
         })
     }
 

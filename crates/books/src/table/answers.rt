@@ -1,6 +1,6 @@
 // What a table book answers.
-ghost use Rattle.std.specs.Prelude.{◌≡◌, ◌*◌, ◌<◌, slice_index};
-ghost use Rattle.books.specs.Alike.{some_above};
+ghost use Rattle.std.specs.Prelude.{◌≡◌, ◌+◌, ◌*◌, ◌<◌, ◌≤◌, ◌&&◌, true, false, IfNone, IfSome, nat_lt, slice_index};
+ghost use Rattle.books.specs.Alike.{inside, some_above};
 ghost use Rattle.books.specs.Lawfuls.{table_lawful};
 ghost use Rattle.books.specs.Means.{table_means};
 ghost use Rattle.books.specs.Tables.{spot};
@@ -10,13 +10,13 @@ use crate::limits::last_alike;
 use model::Book;
 
 impl<'a> TableBook<'a> {
-    // Where the entry of a condition, a remedy and a next condition stands in the tables.
-    fn spot_of(&self, condition: usize, remedy: usize, next: usize) -> usize
-        requires { (condition < self.now.sizes.conditions) × (remedy < self.now.sizes.remedies) × (next < self.now.sizes.conditions) }
-        ensures value { result ≡ spot self.now.sizes.conditions self.now.sizes.remedies condition remedy next }
-        ensures inside { result < self.now.sizes.conditions * self.now.sizes.remedies * self.now.sizes.conditions }
+    // Where the row of a condition and a remedy starts in the tables.
+    fn first_of(&self, condition: usize, remedy: usize) -> usize
+        requires { (condition < self.now.sizes.conditions) × (remedy < self.now.sizes.remedies) }
+        ensures value { result ≡ spot self.now.sizes.conditions self.now.sizes.remedies condition remedy 0 }
+        ensures inside { result + self.now.sizes.conditions ≤ self.now.sizes.conditions * self.now.sizes.remedies * self.now.sizes.conditions }
     {
-        (condition * self.sizes.remedies + remedy) * self.sizes.conditions + next
+        (condition * self.sizes.remedies + remedy) * self.sizes.conditions
     }
 
     // Whether one of the remedy's shares in the condition is above 0.
@@ -24,12 +24,21 @@ impl<'a> TableBook<'a> {
         requires { (condition < self.now.sizes.conditions) × (remedy < self.now.sizes.remedies) }
         ensures { result ≡ some_above (λ j. slice_index self.now.shares.now (spot self.now.sizes.conditions self.now.sizes.remedies condition remedy j)) self.now.sizes.conditions }
     {
-        for next in 0..self.sizes.conditions {
-            if self.shares[self.spot_of(condition, remedy, next)] > 0 {
-                return true;
-            }
+        let first = self.first_of(condition, remedy);
+        let row = &self.shares[first..first + self.sizes.conditions];
+        row.iter().any(|share| *share > 0)
+    }
+
+    // Where an outcome stands in the tables: nowhere outside the sizes.
+    fn spot_of(&self, visit: usize, condition: usize, remedy: usize, next: usize) -> Option<usize>
+        ensures outside { IfNone result ((inside self.now.sizes.conditions self.now.sizes.remedies visit condition remedy && nat_lt next self.now.sizes.conditions) ≡ false) }
+        ensures inside { IfSome result (λ at. ((inside self.now.sizes.conditions self.now.sizes.remedies visit condition remedy && nat_lt next self.now.sizes.conditions) ≡ true) × (at ≡ spot self.now.sizes.conditions self.now.sizes.remedies condition remedy next) × (at < self.now.sizes.conditions * self.now.sizes.remedies * self.now.sizes.conditions)) }
+    {
+        if self.sizes.has(visit, condition, remedy) && next < self.sizes.conditions {
+            Some(self.first_of(condition, remedy) + next)
+        } else {
+            None
         }
-        false
     }
 }
 
@@ -55,19 +64,13 @@ impl<'a> Book for TableBook<'a> {
     }
 
     fn share(&self, visit: usize, condition: usize, remedy: usize, next: usize) -> u32 {
-        if self.sizes.has(visit, condition, remedy) && next < self.sizes.conditions {
-            self.shares[self.spot_of(condition, remedy, next)]
-        } else {
-            0
-        }
+        self.spot_of(visit, condition, remedy, next)
+            .map_or(0, |at| self.shares[at])
     }
 
     fn amount(&self, visit: usize, condition: usize, remedy: usize, next: usize) -> i64 {
-        if self.sizes.has(visit, condition, remedy) && next < self.sizes.conditions {
-            self.amounts[self.spot_of(condition, remedy, next)]
-        } else {
-            0
-        }
+        self.spot_of(visit, condition, remedy, next)
+            .map_or(0, |at| self.amounts[at])
     }
 
     fn worth(&self, condition: usize) -> i64 {

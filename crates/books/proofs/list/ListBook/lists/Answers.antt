@@ -1,36 +1,42 @@
-use Rattle.std.proofs.Common.{◌≡◌, ℕ, ◌<◌, ◌≤◌, false, length, get_or, sym, refl, ap, subst, ⊎_elim, arith}
+use Rattle.std.proofs.Common.{◌≡◌, ℕ, ◌<◌, ◌≤◌, Bool, true, false, ◌&&◌, eqb, length, get_or, Option, Some, None, sym, refl, ap, ◌∙◌, subst, ⊎_elim, arith, rules}
+use borrow.Author.Tests.{tests}
+use denote.Ref.{Bor}
+use Rattle.std.specs.Prelude.{MatchOption}
+use Rattle.std.specs.List.{HoldsAt}
+use Rattle.std.proofs.lemmas.Bool.{cases_Bool, and_parts, and_from, eqb-true, eq-eqb}
 use Rattle.books.specs.declared.list.ListBook.{ListBook}
 use Rattle.books.specs.declared.record.Record.{Record}
 use Rattle.books.specs.Alike.{some_above}
-use Rattle.books.specs.Entries.{no_record, AllPlaced, key, rank}
+use Rattle.books.specs.Entries.{no_record, AllPlaced, StandBefore, rank}
 use Rattle.books.specs.Listed.{listed}
 use Rattle.books.proofs.Lookups.{listed_hit, row_miss, above_at, above_none}
 use Rattle.books.proofs.list.ListBook.lists.Goals as goal
 
 -- no record of the row, where the first one that does not stand before it is of another
-unlisted : (b : ListBook) (s x m w : ℕ) → w ≡ rank s x 0 → ((i : ℕ) → i < m → key (get_or b.records.now i no_record) < w) → ((i : ℕ) → m ≤ i → i < length b.records.now → w ≤ key (get_or b.records.now i no_record)) → (m < length b.records.now → ((get_or b.records.now m no_record).condition ≡ s) × ((get_or b.records.now m no_record).remedy ≡ x) → ⊥) → false ≡ some_above (λ j. (listed b.records.now s x j).share) b.sizes.conditions
-unlisted b s x m w e below above away =
-    let placed : AllPlaced 32 8 b.records.now = λ i l. let p = b.records_placed i l in (omega arith, omega arith, omega arith) in
-    sym (above_none _ b.sizes.conditions (λ j l. ap (λ (f : Record). f.share) (row_miss b.records.now m w b.records_rise below above s x j e placed away)))
+unlisted : (b : ListBook) (s x m w : ℕ) → w ≡ rank s x 0 → StandBefore b.listing.records.now w m → (m < length b.listing.records.now → ((get_or b.listing.records.now m no_record).condition ≡ s) × ((get_or b.listing.records.now m no_record).remedy ≡ x) → ⊥) → false ≡ some_above (λ j. (listed b.listing.records.now s x j).share) b.sizes.conditions
+unlisted b s x m w e stand away =
+    let placed : AllPlaced 32 8 b.listing.records.now = λ i l. let p = b.records_placed i l in (omega arith, omega arith, omega arith) in
+    sym (above_none _ b.sizes.conditions (λ j l. ap (λ (f : Record). f.share) (row_miss b.listing.records.now m w b.listing.rise stand s x j e placed away)))
 
-pub returns-then-found-remedy : goal.returns-then-found-remedy
-returns-then-found-remedy c =
-    let b = c.args.self.now in
-    let at = c.first_of-at.result in
-    let l : at < length b.records.now = omega arith in
-    let found = get_or b.records.now at no_record in
-    let same : listed b.records.now c.args.condition c.args.remedy found.next ≡ found = listed_hit b.records.now _ _ _ at b.records_rise l (omega arith) (omega arith) refl in
-    let p = b.records_placed at l in
-    let v = b.records_valued at l in
+-- the record where the row starts is of the row exactly where the row has one
+of_row : (b : ListBook) (s x m : ℕ) (found : Record) → StandBefore b.listing.records.now (rank s x 0) m → m < length b.listing.records.now → found ≡ get_or b.listing.records.now m no_record → (eqb found.condition s && eqb found.remedy x) ≡ some_above (λ j. (listed b.listing.records.now s x j).share) b.sizes.conditions
+of_row b s x m found stand l is =
+    let es = b.listing.records.now in
+    ⊎_elim
+    (λ (h : (eqb found.condition s && eqb found.remedy x) ≡ true).
+    let p = and_parts _ _ h in
+    let at = get_or es m no_record in
+    let hit : listed es s x at.next ≡ at = listed_hit es s x at.next m b.listing.rise l (ap (λ (e : Record). e.condition) (sym is) ∙ eqb-true _ _ p.0) (ap (λ (e : Record). e.remedy) (sym is) ∙ eqb-true _ _ p.1) refl in
     let P : Record → Type 0 = λ f. 0 < f.share in
-    sym (above_at _ b.sizes.conditions found.next p.2 (subst P (sym same) v.0))
+    h ∙ sym (above_at _ b.sizes.conditions at.next (b.records_placed m l).2 (subst P (sym hit) (b.records_valued m l).0)))
+    (λ (h : (eqb found.condition s && eqb found.remedy x) ≡ false).
+    h ∙ unlisted b s x m _ refl stand (λ k p. let both : true ≡ false = sym (and_from _ _ (eq-eqb _ _ (ap (λ (e : Record). e.condition) is ∙ p.0)) (eq-eqb _ _ (ap (λ (e : Record). e.remedy) is ∙ p.1))) ∙ h in cc))
+    (cases_Bool (eqb found.condition s && eqb found.remedy x))
 
-pub returns-else-found-condition : goal.returns-else-found-condition
-returns-else-found-condition c =
-    let e = c.first_of-at.ensures in
-    unlisted c.args.self.now _ _ c.first_of-at.result _ refl e.below e.above (λ l p. ⊎_elim (λ n. omega arith) (λ n. omega arith) c.else-found-condition.either)
+-- what is said of the record there, if there is one
+at_start : (b : ListBook) (s x m : ℕ) (o : Option (Bor Record)) (r : Bool) (Told : Bor Record → Type 0) → StandBefore b.listing.records.now (rank s x 0) m → MatchOption o (length b.listing.records.now ≤ m) (λ e. (m < length b.listing.records.now) × HoldsAt (λ y. e.now ≡ y) b.listing.records.now m) → MatchOption o (r ≡ false) Told → ((e : Bor Record) → Told e → r ≡ (eqb e.now.condition s && eqb e.now.remedy x)) → r ≡ some_above (λ j. (listed b.listing.records.now s x j).share) b.sizes.conditions
+at_start b s x m None r Told stand past none told = none ∙ unlisted b s x m _ refl stand (λ l p. omega arith)
+at_start b s x m (Some e) r Told stand there one told = told e one ∙ of_row b s x m e.now stand there.0 (there.1 no_record)
 
-pub returns-else-at-self : goal.returns-else-at-self
-returns-else-at-self c =
-    let e = c.first_of-at.ensures in
-    unlisted c.args.self.now _ _ c.first_of-at.result _ refl e.below e.above (λ l p. omega arith)
+pub returns : goal.returns
+returns c = at_start c.args.self.now c.args.condition c.args.remedy c.first_of-first.result c.get-found.result c.is_some_and.result _ c.first_of-first.ensures c.get-found.ensures.lookup.3 c.is_some_and.ensures (λ e q. search (rules, tests))

@@ -14,30 +14,25 @@ module _ (c r parts : ℕ) (es : List Record) (worths : List ℤ) (checked : Lis
   rise : KeysRise es
   rise = keys_rise c r parts es checked.0.0.few_conditions checked.0.0.few_remedies entered
 
-pub starts_of-requires : goal.starts_of-requires
-starts_of-requires c =
+pub invariant_of-listing : goal.invariant_of-listing
+invariant_of-listing c =
     let e = c.in_ok-check.ensures in
     let few = e.0.0.few_conditions in
     let few_remedies = e.0.0.few_remedies in
-    let entered = entered c.in_ok-sizes.sizes.conditions c.in_ok-sizes.sizes.remedies c.in_ok-sizes.sizes.parts c.args.records.now c.args.worths.now e in record {
+    let entered = entered _ _ _ c.args.records.now c.args.worths.now e in record {
       placed = λ i l. let f = (entered i l).0 in let a = f.some_condition in let b = f.some_remedy in let d = f.some_next in (omega arith, omega arith, omega arith);
-      rise = rise c.in_ok-sizes.sizes.conditions c.in_ok-sizes.sizes.remedies c.in_ok-sizes.sizes.parts c.args.records.now c.args.worths.now e;
+      rise = rise _ _ _ c.args.records.now c.args.worths.now e;
     }
 
 pub invariant_of-result : goal.invariant_of-result
 invariant_of-result c =
     let e = c.in_ok-check.ensures in
-    let fits = e.1 in
-    let entered = entered c.in_ok-sizes.sizes.conditions c.in_ok-sizes.sizes.remedies c.in_ok-sizes.sizes.parts c.args.records.now c.args.worths.now e in
-    let rise = rise c.in_ok-sizes.sizes.conditions c.in_ok-sizes.sizes.remedies c.in_ok-sizes.sizes.parts c.args.records.now c.args.worths.now e in record {
+    let entered = entered _ _ _ c.args.records.now c.args.worths.now e in record {
       worths_long = e.0.1;
       records_placed = λ i l. let f = (entered i l).0 in (f.some_condition, f.some_remedy, f.some_next);
       records_valued = λ i l. let f = (entered i l).0 in (f.some_share, f.few_share, f.small_amount);
-      records_rise = rise;
-      worths_small = λ i l. (fits 3 i (inr (inr (refl, l)))).1 refl;
-      starts_within = c.starts_of.ensures.within;
-      starts_below = c.starts_of.ensures.below;
-      starts_above = c.starts_of.ensures.above;
+      worths_small = λ i l. (e.1 3 i (inr (inr (refl, l)))).1 refl;
+      rows_start = c.starts.ensures;
     }
 
 pub returns-in_err-check : goal.returns-in_err-check

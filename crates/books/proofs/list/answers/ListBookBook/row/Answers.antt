@@ -19,12 +19,12 @@ loop-found-preserved c =
     let book = c.args.self.now in
     let (j, few, count, so, below, above) = c.loop-found.invariant in
     let at = c.first_of-first.result + c.loop-found.found-index in
-    let next = (get_or book.records.now at no_record).next in
+    let next = (get_or book.listing.records.now at no_record).next in
     let some = sym c.if-not-has.ensures in
-    let l : at < length book.records.now = omega (arith, length-drop {A = Record}) in
-    let same = from_first book.records.now c.first_of-first.result c.loop-found.found-index (omega (arith, length-drop {A = Record})) in
-    let a : (get_or book.records.now at no_record).condition ≡ c.args.condition = ap (λ (e : Record). e.condition) (sym same) ∙ omega arith in
-    let b : (get_or book.records.now at no_record).remedy ≡ c.args.remedy = ap (λ (e : Record). e.remedy) (sym same) ∙ omega arith in
+    let l : at < length book.listing.records.now = omega (arith, length-drop {A = Record}) in
+    let same = from_first book.listing.records.now c.first_of-first.result c.loop-found.found-index (omega (arith, length-drop {A = Record})) in
+    let a : (get_or book.listing.records.now at no_record).condition ≡ c.args.condition = ap (λ (e : Record). e.condition) (sym same) ∙ omega arith in
+    let b : (get_or book.listing.records.now at no_record).remedy ≡ c.args.remedy = ap (λ (e : Record). e.remedy) (sym same) ∙ omega arith in
     let p = book.records_placed at l in
     let later = later book c.args.visit c.args.condition c.args.remedy some at j below above l a b in
     let n = book.sizes.fit.few_conditions in (
@@ -47,7 +47,7 @@ returns-then-found-condition c =
     let book = c.args.self.now in
     let (j, few, count, so, below, above) = c.loop-found.invariant in
     so ∙ finished book c.args.visit c.args.condition c.args.remedy (sym c.if-not-has.ensures) _ j below above few (λ l p.
-    let same = from_first book.records.now c.first_of-first.result c.loop-found.found-index (omega arith) in
+    let same = from_first book.listing.records.now c.first_of-first.result c.loop-found.found-index (omega arith) in
     let a = ap (λ (e : Record). e.condition) same in
     let b = ap (λ (e : Record). e.remedy) same in
     elim c.then-found-condition.branch [ then-found-condition-via-then-found-condition w ↦ omega (arith, w.if-found-condition.true) | then-found-condition-via-else-found-condition+then-found-remedy w ↦ omega (arith, w.if-found-remedy.true) ])

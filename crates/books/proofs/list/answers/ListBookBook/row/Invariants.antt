@@ -11,5 +11,5 @@ invariant-loop-found l =
     × (j ≤ l.self.sizes.conditions)
     × (length l.row.items ≤ j)
     × (l.row.items ≡ outcomes (list_means l.self) l.visit l.condition l.remedy j)
-    × ((i : ℕ) → i < l.first + l.found-index → key (get_or l.self.records.now i no_record) < rank l.condition l.remedy j)
-    × ((i : ℕ) → l.first + l.found-index ≤ i → i < length l.self.records.now → rank l.condition l.remedy j ≤ key (get_or l.self.records.now i no_record))
+    × ((i : ℕ) → i < l.first + l.found-index → key (get_or l.self.listing.records.now i no_record) < rank l.condition l.remedy j)
+    × ((i : ℕ) → l.first + l.found-index ≤ i → i < length l.self.listing.records.now → rank l.condition l.remedy j ≤ key (get_or l.self.listing.records.now i no_record))
