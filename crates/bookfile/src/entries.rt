@@ -86,10 +86,9 @@ fn worth_of(sizes: Sizes, fields: Fields<'_>) -> Result<(usize, i64), FieldFault
     ensures fits { IfOk result (λ p. p.0 < sizes.conditions) }
 {
     let (condition, fields) = fields.cut();
-    let condition = natural(condition, 0, sizes.conditions as u32 - 1)? as usize;
     let (worth, _) = fields.cut();
-    let worth = signed_number(worth, MOST)?;
-    Ok((condition, worth))
+    let condition = natural(condition, 0, sizes.conditions as u32 - 1)? as usize;
+    Ok((condition, signed_number(worth, MOST)?))
 }
 
 // A line after the first, where the worths of some conditions stand already: records come before all

@@ -15,6 +15,20 @@ pub(crate) struct Room {
     pub worths: usize,
 }
 
+impl Room {
+    ghost use Rattle.std.specs.Prelude.{◌≡◌, length};
+
+    // In a list of records and a table of worths.
+    pub(crate) fn of(records: &[Record], worths: &[i64]) -> Room
+        ensures { result ≡ record { records = length records.now; worths = length worths.now } }
+    {
+        Room {
+            records: records.len(),
+            worths: worths.len(),
+        }
+    }
+}
+
 // How many records and worths stand, and the place of the last record.
 #[derive(Clone, Copy)]
 pub(crate) struct Progress {

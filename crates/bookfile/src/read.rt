@@ -1,5 +1,5 @@
 // Reading a book file into lent tables.
-ghost use Rattle.std.specs.Prelude.{length, IfOk};
+ghost use Rattle.std.specs.Prelude.{◌≡◌, length, IfOk, IfErr};
 ghost use Rattle.bookfile.specs.Entries.{Readable};
 ghost use Rattle.bookfile.specs.FileCalls.{CheckAnswers};
 
@@ -34,11 +34,7 @@ fn fill(bytes: &[u8], records: &mut [Record], worths: &mut [i64]) -> Result<Read
     ensures read { CheckAnswers (length records.old) (length worths.old) bytes.now result }
     ensures readable { IfOk result (λ b. Readable b (length records.old) (length worths.old)) }
 {
-    let room = Room {
-        records: records.len(),
-        worths: worths.len(),
-    };
-    let mut reader = Reader::begun(bytes, room)?;
+    let mut reader = Reader::begun(bytes, Room::of(records, worths))?;
     loop {
         match reader.next()? {
             Entry::Outcome(record) => records[reader.count() - 1] = record,
@@ -52,12 +48,9 @@ fn fill(bytes: &[u8], records: &mut [Record], worths: &mut [i64]) -> Result<Read
 // declined changes neither.
 pub fn read(bytes: &[u8], records: &mut [Record], worths: &mut [i64]) -> Result<ReadBook, FileFault>
     ensures answer { CheckAnswers (length records.old) (length worths.old) bytes.now result }
+    ensures kept { IfErr result (λ _. (records.new ≡ records.old) × (worths.new ≡ worths.old)) }
     ensures readable { IfOk result (λ b. Readable b (length records.old) (length worths.old)) }
 {
-    let room = Room {
-        records: records.len(),
-        worths: worths.len(),
-    };
-    check(bytes, room)?;
+    check(bytes, Room::of(records, worths))?;
     fill(bytes, records, worths)
 }
