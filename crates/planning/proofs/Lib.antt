@@ -1,5 +1,4 @@
 pub mod Steps
-pub mod Bests
 pub mod Tables
 pub mod Plans
 pub mod Agreeing

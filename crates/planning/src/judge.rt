@@ -13,7 +13,8 @@ use criteria::criterion::Criterion;
 use model::Book;
 use model::row::Row;
 
-// Fills the table of values of a table of remedies, the last visit first.
+// Fills the table of values of a table of remedies, the last visit first. It is the walk of a plan, but reads
+// the remedies that a plan writes: one walk for both would need a trait with two structs, and be longer.
 fn fill_values<B: Book, C: Criterion>(
     book: &B,
     by: &C,
