@@ -9,7 +9,7 @@ use Rattle.model.proofs.Listing.{listed_more}
 use Rattle.books.specs.declared.list.ListBook.{ListBook}
 use Rattle.books.specs.declared.record.Record.{Record}
 use Rattle.books.specs.Alike.{inside}
-use Rattle.books.specs.Entries.{no_record, outcome_of, rank, key}
+use Rattle.books.specs.Entries.{no_record, outcome_of, StandBefore, rank, key}
 use Rattle.books.specs.Listed.{listed}
 use Rattle.books.specs.Means.{list_means}
 use Rattle.books.proofs.Lookups.{listed_none, listed_hit, about_not}
@@ -52,7 +52,7 @@ module _ (book : ListBook) (n s x : ℕ) where
       skip_to (list_means book) n s x book.sizes.conditions 0 (omega arith) (λ j a l. ap (λ (b : Bool). cond (b && ltb j book.sizes.conditions) (listed book.listing.records.now s x j).share 0) none)
 
   -- the first `at` records stand before next condition j of the row, the others do not
-  module _ (some : inside book.sizes.conditions book.sizes.remedies n s x ≡ true) (at j : ℕ) (below : (i : ℕ) → i < at → key (get_or book.listing.records.now i no_record) < rank s x j) (above : (i : ℕ) → at ≤ i → i < length book.listing.records.now → rank s x j ≤ key (get_or book.listing.records.now i no_record)) where
+  module _ (some : inside book.sizes.conditions book.sizes.remedies n s x ≡ true) (at j : ℕ) (stand : StandBefore book.listing.records.now (rank s x j) at) where
     here : (k : ℕ) → k < book.sizes.conditions → (inside book.sizes.conditions book.sizes.remedies n s x && ltb k book.sizes.conditions) ≡ true
     here k l = and_from (inside book.sizes.conditions book.sizes.remedies n s x) (ltb k book.sizes.conditions) some (lt-ltb k book.sizes.conditions l)
 
@@ -73,7 +73,7 @@ module _ (book : ListBook) (n s x : ℕ) where
     -- no share from j to a next condition that the record there does not stand before
     skipped : (t : ℕ) → j ≤ t → t ≤ book.sizes.conditions → (at < length book.listing.records.now → rank s x t ≤ key (get_or book.listing.records.now at no_record)) → outcomes (list_means book) n s x j ≡ outcomes (list_means book) n s x t
     skipped t l m first =
-        skip_to (list_means book) n s x t j l (λ i d q. share_is i (omega arith) ∙ ap (λ (f : Record). f.share) (gap book.listing.records.now at (rank s x j) (rank s x t) s x i below (from_there (rank s x t) first) (omega arith) (omega arith)))
+        skip_to (list_means book) n s x t j l (λ i d q. share_is i (omega arith) ∙ ap (λ (f : Record). f.share) (gap book.listing.records.now at (rank s x j) (rank s x t) s x i stand.below (from_there (rank s x t) first) (omega arith) (omega arith)))
 
     -- the record there is of another row: the row is at its end
     pub finished : j ≤ book.sizes.conditions → (at < length book.listing.records.now → ((get_or book.listing.records.now at no_record).condition ≡ s) × ((get_or book.listing.records.now at no_record).remedy ≡ x) → ⊥) → outcomes (list_means book) n s x j ≡ outcomes (list_means book) n s x book.sizes.conditions
@@ -81,12 +81,12 @@ module _ (book : ListBook) (n s x : ℕ) where
         let few = book.sizes.fit.few_conditions in
         let few_remedies = book.sizes.fit.few_remedies in
         let xl = ltb-true x book.sizes.remedies (and_parts _ (ltb x book.sizes.remedies) some).1 in
-        skipped book.sizes.conditions l (omega arith) (λ m. let p = book.records_placed at m in let q = past_row (get_or book.listing.records.now at no_record) s x j (omega arith) (omega arith) (omega arith) (above at (omega arith) m) (away m) in omega arith)
+        skipped book.sizes.conditions l (omega arith) (λ m. let p = book.records_placed at m in let q = past_row (get_or book.listing.records.now at no_record) s x j (omega arith) (omega arith) (omega arith) (stand.above at (omega arith) m) (away m) in omega arith)
 
     -- it is of the row: one outcome more
     module _ (l : at < length book.listing.records.now) (a : (get_or book.listing.records.now at no_record).condition ≡ s) (b : (get_or book.listing.records.now at no_record).remedy ≡ x) where
       pub later : j ≤ (get_or book.listing.records.now at no_record).next
-      later = let u = above at (omega arith) l in omega arith
+      later = let u = stand.above at (omega arith) l in omega arith
 
       pub written : (row : List Outcome) (o : Outcome) → o ≡ outcome_of (get_or book.listing.records.now at no_record) → row ≡ outcomes (list_means book) n s x j → row ++ (o ∷ []) ≡ outcomes (list_means book) n s x ((get_or book.listing.records.now at no_record).next + 1)
       written row o told so =
@@ -100,13 +100,15 @@ module _ (book : ListBook) (n s x : ℕ) where
           ∙ ap (λ (y : Outcome). outcomes (list_means book) n s x t ++ (y ∷ [])) same
           ∙ listed_more (list_means book) n s x t (subst (λ (k : ℕ). 0 < k) share (book.records_valued at l).0)
 
-      pub below_more : (i : ℕ) → i < at + 1 → key (get_or book.listing.records.now i no_record) < rank s x ((get_or book.listing.records.now at no_record).next + 1)
-      below_more i m =
+      pub stand_more : (next : ℕ) → next ≡ at + 1 → StandBefore book.listing.records.now (rank s x ((get_or book.listing.records.now at no_record).next + 1)) next
+      stand_more next one =
           let u = later in
-          ⊎_elim
-          (λ (d : i < at). let v = below i d in omega arith)
-          (λ (d : at ≤ i). let same : at ≡ i = omega arith in subst (λ (k : ℕ). key (get_or book.listing.records.now k no_record) < rank s x ((get_or book.listing.records.now at no_record).next + 1)) same (omega arith))
-          (cases_lt i at)
-
-      pub above_more : (i : ℕ) → at + 1 ≤ i → i < length book.listing.records.now → rank s x ((get_or book.listing.records.now at no_record).next + 1) ≤ key (get_or book.listing.records.now i no_record)
-      above_more i m d = let v = book.listing.rise at i (omega arith) d in omega arith
+          record {
+            within = omega arith;
+            below = λ i m.
+                ⊎_elim
+                (λ (d : i < at). let v = stand.below i d in omega arith)
+                (λ (d : at ≤ i). let same : at ≡ i = omega arith in subst (λ (k : ℕ). key (get_or book.listing.records.now k no_record) < rank s x ((get_or book.listing.records.now at no_record).next + 1)) same (omega arith))
+                (cases_lt i at);
+            above = λ i m d. let v = book.listing.rise at i (omega arith) d in omega arith;
+          }

@@ -7,7 +7,7 @@ ghost use Rattle.books.specs.Making.{FirstFailing};
 pub(crate) fn is_small(money: i64) -> bool
     ensures { Decides result (SmallMoney money) }
 {
-    -1_000_000 <= money && money <= 1_000_000
+    money.unsigned_abs() <= 1_000_000
 }
 
 // The first place where one is not.

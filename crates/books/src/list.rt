@@ -10,7 +10,7 @@ use super::sizes::Sizes;
 
 // A book that lists what may happen: records rising by condition, remedy and next condition, and the
 // worths. What is not listed has share 0 and amount 0. `starts` has, for every condition and remedy, how
-// many records stand before theirs.
+// many records stand before theirs: a row is found without a search.
 #[derive(Clone, Copy)]
 pub struct ListBook<'a> {
     sizes: Sizes,

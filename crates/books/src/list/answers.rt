@@ -46,7 +46,7 @@ impl<'a> ListBook<'a> {
     }
 
     // The record of an outcome, if it is listed; none is outside the sizes.
-    fn found(
+    fn record_of(
         &self,
         visit: usize,
         condition: usize,
@@ -90,12 +90,12 @@ impl<'a> Book for ListBook<'a> {
     }
 
     fn share(&self, visit: usize, condition: usize, remedy: usize, next: usize) -> u32 {
-        self.found(visit, condition, remedy, next)
+        self.record_of(visit, condition, remedy, next)
             .map_or(0, |found| found.share)
     }
 
     fn amount(&self, visit: usize, condition: usize, remedy: usize, next: usize) -> i64 {
-        self.found(visit, condition, remedy, next)
+        self.record_of(visit, condition, remedy, next)
             .map_or(0, |found| found.amount)
     }
 

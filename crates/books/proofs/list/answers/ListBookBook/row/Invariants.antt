@@ -1,6 +1,6 @@
-use Rattle.std.proofs.Common.{◌≡◌, ℕ, ◌+◌, ◌<◌, ◌≤◌, length, get_or}
+use Rattle.std.proofs.Common.{◌≡◌, ℕ, ◌+◌, ◌≤◌, length}
 use Rattle.model.specs.Rows.{outcomes}
-use Rattle.books.specs.Entries.{no_record, rank, key}
+use Rattle.books.specs.Entries.{StandBefore, rank}
 use Rattle.books.specs.Means.{list_means}
 use Rattle.books.proofs.list.answers.ListBookBook.row.Given as goal
 
@@ -11,5 +11,4 @@ invariant-loop-found l =
     × (j ≤ l.self.sizes.conditions)
     × (length l.row.items ≤ j)
     × (l.row.items ≡ outcomes (list_means l.self) l.visit l.condition l.remedy j)
-    × ((i : ℕ) → i < l.first + l.found-index → key (get_or l.self.listing.records.now i no_record) < rank l.condition l.remedy j)
-    × ((i : ℕ) → l.first + l.found-index ≤ i → i < length l.self.listing.records.now → rank l.condition l.remedy j ≤ key (get_or l.self.listing.records.now i no_record))
+    × StandBefore l.self.listing.records.now (rank l.condition l.remedy j) (l.first + l.found-index)
