@@ -50,6 +50,7 @@ row_stays n c c' k xs e f room =
       sym (take-append-drop c rest) ∙ ap (λ ys. take c rest ++ ys) (drop-drop c (n * c) xs ∙ ap (λ i. drop i xs) (sym one)) ∙ ap (λ r. r ++ drop ((n + 1) * c) xs) (sym row),
     )
 
+-- what is within the first of two lists is within both
 below_append : {X : Type 0} (xs ys : List X) (i : ℕ) → i ≤ length xs → i ≤ length (xs ++ ys)
 below_append xs ys i h = omega (arith, length-append xs ys)
 
@@ -57,7 +58,7 @@ below_append xs ys i h = omega (arith, length-append xs ys)
 part_put : {X : Type 0} (a k : ℕ) (xs ys : List X) → a ≤ length xs → drop a (put_mid a k xs ys) ≡ ys ++ drop (a + k) xs
 part_put a k xs ys room = drop_at (take a xs) _ a (length-take-le a xs room) ∙ ap (λ zs. ys ++ zs) (drop-drop k a xs)
 
--- a write to it
+-- a write to the row n
 pub row_put : {X : Type 0} (n c c' k : ℕ) (xs row : List X) → c' ≡ c → k ≡ c' → (n + 1) * c ≤ length xs → length row ≡ c' → Replaced n c xs row (put_mid (n * c') k xs row)
 row_put n c c' k xs row e f room long =
     let one : (n + 1) * c ≡ n * c + c = next_row n c in
