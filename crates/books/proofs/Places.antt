@@ -1,7 +1,7 @@
--- Places of tables, their order, and the numbers of sizes.
+-- Places of tables, and the numbers of sizes.
 use Rattle.std.proofs.Common.{◌≡◌, ℕ, ◌<◌, ⊎_elim, arith}
 use Rattle.books.specs.declared.sizes.Sizes.{Sizes}
-use Rattle.books.specs.Making.{InTable, Earlier}
+use Rattle.books.specs.Making.{InTable}
 
 -- what holds at the sizes of a book holds at the numbers that they were made of
 pub at_numbers : (z : Sizes) (c r p : ℕ) (P : (c r p : ℕ) → Type 0) → (z.conditions ≡ c) × (z.remedies ≡ r) × (z.parts ≡ p) → P z.conditions z.remedies z.parts → P c r p
@@ -10,14 +10,5 @@ at_numbers z c r p P e h = rw (← e.0, ← e.1, ← e.2) h
 pub in_first : (a b w t i : ℕ) → InTable a b w t i → t ≡ 1 → i < a
 in_first a b w t i h e = ⊎_elim (λ p. p.1) (⊎_elim (λ p. absurd (omega arith)) (λ p. absurd (omega arith))) h
 
-pub in_second : (a b w t i : ℕ) → InTable a b w t i → t ≡ 2 → i < b
-in_second a b w t i h e = ⊎_elim (λ p. absurd (omega arith)) (⊎_elim (λ p. p.1) (λ p. absurd (omega arith))) h
-
 pub in_third : (a b w t i : ℕ) → InTable a b w t i → t ≡ 3 → i < w
 in_third a b w t i h e = ⊎_elim (λ p. absurd (omega arith)) (⊎_elim (λ p. absurd (omega arith)) (λ p. p.1)) h
-
-pub earlier_there : (t i t' i' : ℕ) → Earlier t i t' i' → t ≡ t' → i < i'
-earlier_there t i t' i' h e = ⊎_elim (λ l. absurd (omega arith)) (λ p. p.1) h
-
-pub earlier_not : (t i t' i' : ℕ) → Earlier t i t' i' → t' < t → ⊥
-earlier_not t i t' i' h e = ⊎_elim (λ l. omega arith) (λ p. omega arith) h

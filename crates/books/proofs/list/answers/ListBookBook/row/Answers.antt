@@ -1,5 +1,4 @@
 use Rattle.std.proofs.Common.{◌≡◌, ◌+◌, ◌<◌, length, get_or, sym, ap, ◌∙◌, arith, length-drop}
-use Rattle.model.specs.declared.row.Outcome.{Outcome}
 use Rattle.books.specs.declared.record.Record.{Record}
 use Rattle.books.specs.Entries.{no_record, outcome_of}
 use Rattle.books.proofs.Rows.{from_first, outside, finished, later, written, stand_more}
@@ -8,11 +7,6 @@ use Rattle.books.proofs.list.answers.ListBookBook.row.Goals.{then-found-conditio
 
 pub returns-then-not-has : goal.returns-then-not-has
 returns-then-not-has c = c.clear.ensures ∙ outside c.args.self.now c.args.visit c.args.condition c.args.remedy (sym c.if-not-has.ensures)
-
-pub loop-found-init : goal.loop-found-init
-loop-found-init c =
-    let e = c.first_of-first.ensures in
-    (0, omega arith, omega (arith, ap (length {A = Outcome}) c.clear.ensures), c.clear.ensures, record { within = omega arith; below = λ i l. e.below i (omega arith); above = λ i l. e.above i (omega arith) })
 
 pub loop-found-preserved : goal.loop-found-preserved
 loop-found-preserved c =
