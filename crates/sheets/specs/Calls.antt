@@ -38,9 +38,9 @@ to_surcharge o ns r a v =
     (entering ns (Surcharge r a v))))
 
 -- the note for other visits
-abbrev pub over : Note → Visits → Note
-over (Bar s r v) w = Bar s r w
-over (Surcharge r a v) w = Surcharge r a w
+abbrev pub moved : Note → Visits → Note
+moved (Bar s r v) w = Bar s r w
+moved (Surcharge r a v) w = Surcharge r a w
 
 -- the same visits up to another last one
 abbrev pub until : Visits → ℕ → Visits
@@ -66,7 +66,7 @@ to_prolong ns p l =
     let v = until (visits_of x) l in
     cond (not (stands_at ns p)) (Err Unknown, ns)
     (cond (misspanned v) (Err Span, ns)
-    (Ok p, slice_set ns (p - 1) (over x v)))
+    (Ok p, slice_set ns (p - 1) (moved x v)))
 
 -- those after the lifted one move down a place
 abbrev pub to_lift : List Note → (place : ℕ) → Answered

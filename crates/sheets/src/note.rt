@@ -1,6 +1,6 @@
 ghost use Rattle.std.specs.Prelude.{◌≡◌};
 ghost use Rattle.sheets.specs.Notes.{covers, visits_of, bars, charge};
-ghost use Rattle.sheets.specs.Calls.{misspanned, over};
+ghost use Rattle.sheets.specs.Calls.{misspanned, moved};
 
 // The visits from first to last.
 #[derive(Clone, Copy, Debug, PartialEq)]
@@ -79,7 +79,7 @@ impl Note {
 
     // The same note for other visits.
     pub(crate) fn over(&self, visits: Visits) -> Note
-        ensures { result ≡ over self.now visits }
+        ensures { result ≡ moved self.now visits }
     {
         match *self {
             Note::Bar {

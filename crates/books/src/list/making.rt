@@ -12,15 +12,15 @@ use crate::refusal::{MakingRefusal, Table};
 use crate::sizes::Sizes;
 
 // Whether a record is within the sizes and its share and amount within the limits.
-fn record_fits(sizes: Sizes, record: &Record) -> bool
-    ensures { Decides result (RecordFits sizes.conditions sizes.remedies sizes.parts record.now) }
+fn record_fits(sizes: Sizes, entry: &Record) -> bool
+    ensures { Decides result (RecordFits sizes.conditions sizes.remedies sizes.parts entry.now) }
 {
-    record.condition < sizes.conditions
-        && record.remedy < sizes.remedies
-        && record.next < sizes.conditions
-        && 1 <= record.share
-        && record.share <= sizes.parts
-        && is_small(record.amount)
+    entry.condition < sizes.conditions
+        && entry.remedy < sizes.remedies
+        && entry.next < sizes.conditions
+        && 1 <= entry.share
+        && entry.share <= sizes.parts
+        && is_small(entry.amount)
 }
 
 // Whether the second record stands after the first, by condition, remedy and next condition.
