@@ -67,16 +67,21 @@ fn record_of(sizes: Sizes, fields: Fields<'_>) -> Result<Record, FieldFault>
 {
     let last = sizes.conditions as u32 - 1;
     let (condition, fields) = fields.cut();
+    let condition = natural(condition, 0, last)? as usize;
     let (remedy, fields) = fields.cut();
+    let remedy = natural(remedy, 0, sizes.remedies as u32 - 1)? as usize;
     let (next, fields) = fields.cut();
+    let next = natural(next, 0, last)? as usize;
     let (share, fields) = fields.cut();
+    let share = natural(share, 1, sizes.parts)?;
     let (amount, _) = fields.cut();
+    let amount = signed_number(amount, MOST)?;
     Ok(Record {
-        condition: natural(condition, 0, last)? as usize,
-        remedy: natural(remedy, 0, sizes.remedies as u32 - 1)? as usize,
-        next: natural(next, 0, last)? as usize,
-        share: natural(share, 1, sizes.parts)?,
-        amount: signed_number(amount, MOST)?,
+        condition,
+        remedy,
+        next,
+        share,
+        amount,
     })
 }
 
