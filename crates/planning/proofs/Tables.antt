@@ -1,6 +1,6 @@
 -- Rows of the tables, and what a write to one leaves.
 use Rattle.std.proofs.Common.{◌≡◌, ℕ, ◌+◌, ◌-◌, ◌*◌, ◌<◌, ◌≤◌, ◌≢◌, List, [], ◌++◌, length, get_or, take, drop, set, sym, refl, ap, ◌∙◌, subst, ⊎_elim, mul-le-mul_right, add-mul, one-mul, eq-or-lt_of_le, arith, below_more}
-use Rattle.std.proofs.lemmas.List.{get_or-set_same, get_or-set_other, drop-drop, take_at, drop_at, length-take-le, length-drop, take-append-drop, drop-append-le, drop_all, length-append, append-nil}
+use Rattle.std.proofs.lemmas.List.{get_or-set_same, get_or-set_other, drop-drop, take_at, drop_at, length-take, length-take-le, length-drop, take-append-drop, drop-append-le, drop_all, length-append, append-nil}
 use borrow.Rule.Slice.PartMut.{put_mid}
 use Rattle.model.specs.Model.{Model}
 use Rattle.model.specs.Visits.{visit_after}
@@ -20,6 +20,10 @@ entries_more P d k vs vs' rs rs' r v a b e f here below =
 
 pub next_row : (n c : ℕ) → (n + 1) * c ≡ n * c + c
 next_row n c = omega (arith, add-mul n 1 c, one-mul c)
+
+-- a table with room for H rows has room for the row n
+pub row_within : (n H c long : ℕ) → n < H → H * c ≤ long → (n + 1) * c ≤ long
+row_within n H c long l room = let on : n + 1 ≤ H = omega arith in omega (arith, mul-le-mul_right c on)
 
 -- what stands from k on stays, so what stands from a later place on does
 kept_drop : {X : Type 0} (k i : ℕ) (xs ys : List X) → k ≤ i → drop k xs ≡ drop k ys → drop i xs ≡ drop i ys
@@ -120,9 +124,12 @@ module _ {V A : Type 0} (o : Ops V A) (m : Model) (E : Entry V) where
           (eq-or-lt_of_le h)
 
   -- before any row: the closing values are written
-  pub rows_closed : (H c' k : ℕ) (vs row : List V) (rs : List ℕ) → c' ≡ m.conditions → k ≡ c' → (H + 1) * m.conditions ≤ length vs → length row ≡ c' → Closed o m row →
+  pub rows_closed : (H c' k : ℕ) (vs row : List V) (rs : List ℕ) → c' ≡ m.conditions → k ≡ c' → (H + 1) * m.conditions ≤ length vs → length row ≡ length (take k (drop (H * c') vs)) → Closed o m row →
       RowsWritten o m E H H vs (put_mid (H * c') k vs row) rs rs
-  rows_closed H c' k vs row rs e f room long h =
+  rows_closed H c' k vs row rs e f room whole h =
+      let one = next_row H m.conditions in
+      let same : H * c' ≡ H * m.conditions = ap (λ x. H * x) e in
+      let long : length row ≡ c' = omega (arith, simp (length-take, length-drop) at whole) in
       let put = row_put H m.conditions c' k vs row e f room long in
       record {
         filled = record { closed = subst (Closed o m) (sym (row_is H m.conditions vs row _ put)) h; rows = λ n a b. absurd (never n a b) };
@@ -134,9 +141,13 @@ module _ {V A : Type 0} (o : Ops V A) (m : Model) (E : Entry V) where
       never n a b = omega arith
 
   -- one row more, from the back: the last of the front of the table of values
-  pub row_written : (H n visit c' k : ℕ) (es vs front back row : List V) (er rs names rs' : List ℕ) → n < H → visit ≡ visit_after n → c' ≡ m.conditions → k ≡ c' → length front ≡ n * c' + c' → back ≡ drop (n * c' + c') vs → length row ≡ c' →
-      Replaced n m.conditions rs names rs' → AsAsked o m E visit (H - n) (take c' back) row names →
-      RowsWritten o m E H (n + 1) es vs er rs → RowsWritten o m E H n es (put_mid (n * c') k front row ++ back) er rs'
-  row_written H n visit c' k es vs front back row er rs names rs' below here e f whole rest long put asked w =
-      let later : take c' back ≡ row_of m vs (n + 1) = ap (take c') rest ∙ ap (λ x. take x (drop (n * x + x) vs)) e ∙ ap (λ i. take m.conditions (drop i vs)) (sym (next_row n m.conditions)) in
-      rows_more H n visit (take c' back) es vs row _ er rs names rs' below here later (last_put n m.conditions c' k vs front back row e f whole rest long) put asked w
+  pub row_written : (H p c' k : ℕ) (es vs front back row : List V) (er rs names rs' : List ℕ) → 0 < p → p ≤ H → c' ≡ m.conditions → k ≡ c' →
+      length front ≡ (p - 1) * c' + c' → back ≡ drop ((p - 1) * c' + c') vs → length row ≡ c' →
+      Replaced (p - 1) m.conditions rs names rs' → AsAsked o m E (visit_after (p - 1)) (H - (p - 1)) (take m.conditions back) row names →
+      RowsWritten o m E H p es vs er rs → RowsWritten o m E H (p - 1) es (put_mid ((p - 1) * c') k front row ++ back) er rs'
+  row_written H p c' k es vs front back row er rs names rs' some low e f whole rest long put asked w =
+      let n : ℕ = p - 1 in
+      let one : p ≡ n + 1 = omega arith in
+      let later : take m.conditions back ≡ row_of m vs (n + 1) = ap (take m.conditions) (rest ∙ ap (λ x. drop (n * x + x) vs) e ∙ ap (λ i. drop i vs) (sym (next_row n m.conditions))) in
+      rows_more H n (visit_after n) (take m.conditions back) es vs row _ er rs names rs' (omega arith) refl later (last_put n m.conditions c' k vs front back row e f whole rest long) put asked
+      (subst (λ x. RowsWritten o m E H x es vs er rs) one w)

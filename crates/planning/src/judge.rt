@@ -8,13 +8,11 @@ use super::rows::close_row;
 use super::stage::Stage;
 use checks::ready::check_judgement;
 use checks::refusal::PlanRefusal;
-use checks::visit::visit_of;
 use criteria::criterion::Criterion;
 use model::Book;
 use model::row::Row;
 
-// Fills the table of values of a table of remedies, the last visit first. It is the walk of a plan, but reads
-// the remedies that a plan writes: one walk for both would need a trait with two structs, and be longer.
+// Fills the table of values of a table of remedies, the last visit first.
 fn fill_values<B: Book, C: Criterion>(
     book: &B,
     by: &C,
@@ -33,13 +31,7 @@ fn fill_values<B: Book, C: Criterion>(
         let start = past * conditions;
         let next = start + conditions;
         let (before, after) = values.split_at_mut(next);
-        let stage = Stage {
-            book,
-            by,
-            visit: visit_of(past),
-            left: visits - past,
-            later: &after[..conditions],
-        };
+        let stage = Stage::new(book, by, visits, past, after);
         stage.judge_row(&mut before[start..], &remedies[start..next], &mut outcomes);
     }
 }

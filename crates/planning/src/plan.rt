@@ -9,7 +9,6 @@ use super::rows::close_row;
 use super::stage::Stage;
 use checks::ready::check_plan;
 use checks::refusal::PlanRefusal;
-use checks::visit::visit_of;
 use criteria::criterion::Criterion;
 use model::Book;
 use model::row::Row;
@@ -34,13 +33,7 @@ fn fill<B: Book, C: Criterion>(
         let start = past * conditions;
         let next = start + conditions;
         let (before, after) = values.split_at_mut(next);
-        let stage = Stage {
-            book,
-            by,
-            visit: visit_of(past),
-            left: visits - past,
-            later: &after[..conditions],
-        };
+        let stage = Stage::new(book, by, visits, past, after);
         stage.plan_row(
             &mut before[start..],
             &mut remedies[start..next],

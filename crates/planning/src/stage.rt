@@ -1,10 +1,11 @@
-ghost use Rattle.std.specs.Prelude.{◌≡◌, ℕ, ◌<◌, length, MatchOption};
+ghost use Rattle.std.specs.Prelude.{◌≡◌, ℕ, ◌-◌, ◌<◌, ◌≤◌, length, take, MatchOption};
 ghost use Rattle.model.specs.Model.{offers};
-ghost use Rattle.model.specs.Visits.{SomeOffered};
+ghost use Rattle.model.specs.Visits.{visit_after, SomeOffered};
 ghost use Rattle.criteria.specs.Policies.{entered, remedied};
 ghost use Rattle.planning.specs.Choosing.{Best, NoneBelow, kept_of};
 ghost use Rattle.planning.specs.Tables.{at, Chosen, Valued, AsAsked};
 
+use checks::visit::visit_of;
 use criteria::criterion::Criterion;
 use model::Book;
 use model::row::Row;
@@ -32,6 +33,34 @@ fn preferred<C: Criterion>(
     match found {
         Some((held, top)) if by.good(top, value) => (held, top),
         _ => (remedy, value),
+    }
+}
+
+impl<'a, 'v, B: Book, C: Criterion> Stage<'a, 'v, B, C> {
+    // The visit after `past` others, of `visits`; `after` begins with the values that follow it.
+    pub(crate) fn new(
+        book: &'a B,
+        by: &'a C,
+        visits: usize,
+        past: usize,
+        after: &'v [C::Value],
+    ) -> Self
+        requires past { past < visits }
+        requires few { visits ≤ 48 }
+        requires room { (B.model book.now).conditions ≤ length after.now }
+        ensures book { result.book.now ≡ book.now }
+        ensures by { result.by.now ≡ by.now }
+        ensures visit { result.visit ≡ visit_after past }
+        ensures left { result.left ≡ visits - past }
+        ensures later { result.later.now ≡ take (B.model book.now).conditions after.now }
+    {
+        Stage {
+            book,
+            by,
+            visit: visit_of(past),
+            left: visits - past,
+            later: &after[..book.conditions()],
+        }
     }
 }
 
@@ -97,6 +126,7 @@ impl<B: Book, C: Criterion> Stage<'_, '_, B, C> {
         requires remedies { length remedies.now ≡ (B.model self.now.book.now).conditions }
         ensures { let o = C.ops self.now.by.now in let m = B.model self.now.book.now in AsAsked o m (Valued o m) self.now.visit self.now.left self.now.later.now values.new remedies.now }
     {
+        // the remedy by index: of a `zip` over `iter_mut` the check does not know what was written
         for (condition, value) in values.iter_mut().enumerate() {
             *value = self.value_under(condition, usize::from(remedies[condition]), row);
         }
