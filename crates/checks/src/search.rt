@@ -114,9 +114,8 @@ pub(crate) fn first_misnamed<B: Book>(
     ensures { MatchOption result (WellNamed (offers (B.model book.now)) remedies.now visits) (λ p. FirstMisnamed (offers (B.model book.now)) remedies.now visits p.0 p.1 p.2) }
 {
     let conditions = book.conditions();
-    for row in 0..visits {
+    for (row, named) in remedies.chunks_exact(conditions).take(visits).enumerate() {
         let visit = visit_of(row);
-        let named = &remedies[row * conditions..][..conditions];
         if let Some((condition, remedy)) = misnamed_condition(book, visit, named) {
             return Some((visit, condition, remedy));
         }
