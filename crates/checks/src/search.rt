@@ -95,13 +95,11 @@ pub(crate) fn first_uneven<B: Book>(book: &B, visits: usize) -> Option<(usize, u
 fn misnamed_condition<B: Book>(book: &B, visit: usize, named: &[u8]) -> Option<(usize, usize)>
     ensures { FirstMisnamedAt (offers (B.model book.now)) visit named.now result }
 {
-    for (condition, remedy) in named.iter().enumerate() {
-        let remedy = usize::from(*remedy);
-        if !book.offered(visit, condition, remedy) {
-            return Some((condition, remedy));
-        }
-    }
-    None
+    named
+        .iter()
+        .map(|remedy| usize::from(*remedy))
+        .enumerate()
+        .find(|(condition, remedy)| !book.offered(visit, *condition, *remedy))
 }
 
 // The first place where the table names a remedy that is not offered, with that remedy.
