@@ -41,7 +41,7 @@ fn greatest_under<B: Book>(
     greatest_amount(row.as_slice())
 }
 
-// The largest under a remedy that is offered there.
+// The largest size of an amount of share above 0 in a condition, under any remedy that is offered there.
 fn greatest_in<B: Book>(book: &B, visit: usize, condition: usize, row: &mut Row) -> u64
     ensures { result ≡ largest_in (B.model book.now) visit condition }
 {
@@ -52,7 +52,7 @@ fn greatest_in<B: Book>(book: &B, visit: usize, condition: usize, row: &mut Row)
         .unwrap_or(0)
 }
 
-// The largest at a visit, in any condition.
+// The largest size of an amount of share above 0 at a visit, in any condition, under any remedy that is offered there.
 fn greatest_at<B: Book>(book: &B, visit: usize, row: &mut Row) -> u64
     ensures { result ≡ largest_at (B.model book.now) visit }
 {

@@ -59,14 +59,14 @@ fn is_uneven<B: Book>(
     total_share(row.as_slice()) != book.parts()
 }
 
-// The first such remedy in the condition.
+// The first remedy offered in the condition whose shares do not add to the parts.
 fn uneven_remedy<B: Book>(book: &B, visit: usize, condition: usize, row: &mut Row) -> Option<usize>
     ensures { FirstUnevenIn (B.model book.now) visit condition result }
 {
     (0..book.remedies()).find(|remedy| is_uneven(book, visit, condition, *remedy, row))
 }
 
-// The first such remedy at the visit, with its condition.
+// The first condition of the visit with an offered remedy whose shares do not add to the parts, and that remedy.
 fn uneven_place<B: Book>(book: &B, visit: usize, row: &mut Row) -> Option<(usize, usize)>
     ensures { FirstUnevenAt (B.model book.now) visit result }
 {
