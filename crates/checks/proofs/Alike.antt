@@ -1,5 +1,6 @@
 -- Visits that are alike have the same offers, weights and sizes.
 use Rattle.std.proofs.Common.{◌≡◌, ℕ, zero, suc, ◌+◌, ◌<◌, ◌≤◌, min, max, cond, T, ltb, nat_abs, sym, refl, ap, ◌∙◌, subst, ⊎_elim, arith}
+use Rattle.std.specs.Borrow.{Bor}
 use Rattle.std.proofs.lemmas.Bool.{cases_lt}
 use Rattle.model.specs.Model.{Model, offers, weight}
 use Rattle.model.specs.Visits.{visit_after, SomeOffered}
@@ -12,6 +13,10 @@ use Rattle.checks.proofs.Places.{Clear}
 -- the same walk, by equal books and ends
 pub asked_at : (m m' : Model) (H H' past n last : ℕ) → m' ≡ m → H' ≡ H → Asked m' H' past n last → Asked m H past n last
 asked_at m m' H H' past n last e f asked = subst (λ h. Asked m h past n last) f (subst (λ x. Asked x H' past n last) e asked)
+
+-- a walk that goes on stays at its book and its end, and asks of the next visit
+pub walk_on : {X Q : Type 0} (model : X → Model) (book : X) (H : ℕ) {b b' : Bor X} {h h' past n last : ℕ} → (b' ≡ b) × (h' ≡ h) × Asked (model b.now) h past n last → b.now ≡ book → h ≡ H → (Asked (model book) H past n last → Q) → (b'.now ≡ book) × (h' ≡ H) × Q
+walk_on model book H step here end next = (ap (λ b. b.now) step.0 ∙ here, step.1 ∙ end, next (asked_at (model book) _ H _ _ _ _ (ap model here) end step.2))
 
 -- the visit is done, and with it those that are alike
 pub clear_alike : (m : Model) (H : ℕ) (P : ℕ → ℕ → Type 0) (past n last : ℕ) → Asked m H past n last → ((k s : ℕ) → Alike m n k → P n s → P k s) → ((s : ℕ) → s < m.conditions → P n s) → Clear (offers m) H P past → Clear (offers m) H P last

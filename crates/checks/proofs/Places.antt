@@ -1,11 +1,12 @@
 -- Searching visit by visit: what holds of every place at the visits that are done.
-use Rattle.std.proofs.Common.{◌≡◌, ℕ, ◌+◌, ◌*◌, ◌-◌, ◌<◌, ◌≤◌, Bool, true, false, T, List, length, get_or, take, drop, Option, Some, None, MatchBool, MatchOption, ap, ◌∙◌, subst, sym, ⊎_elim, add-mul, one-mul, mul-le-mul_right, get_or-take, get_or-drop, length-take, length-drop, zero-add, arith}
+use Rattle.std.proofs.Common.{◌≡◌, ℕ, ◌+◌, ◌*◌, ◌-◌, ◌<◌, ◌≤◌, ◌^◌, min, ◌++◌, Bool, true, false, T, List, length, get_or, drop, Option, Some, None, MatchBool, MatchOption, ap, ◌∙◌, subst, sym, ⊎_elim, add-mul, zero-mul, one-mul, mul-le-mul_right, get_or-drop, length-drop, drop_at, drop-drop, zero-add, arith}
 use Rattle.std.specs.List.{range_with_len, HoldsAt, AllWithin}
 use Rattle.std.proofs.lemmas.Bool.{cases_lt}
+use Rattle.std.proofs.lemmas.List.{get_or_append_left}
 use Rattle.std.proofs.lemmas.List.FromFn.{length-range_with_len, get_or-range_with_len}
 use Rattle.model.specs.Model.{Model, Offers, Lawful}
 use Rattle.model.specs.Visits.{visit_after, Place, Before, SomeOffered, Unoffered, Uneven}
-use Rattle.checks.specs.Places.{named, EvenUnder, FirstOf, FirstUnevenIn}
+use Rattle.checks.specs.Places.{named, EvenUnder, FirstOf, FirstUnevenIn, FirstMisnamed, FirstMisnamedAt}
 
 -- P holds of every place at the first visits
 abbrev pub Clear : Offers → ℕ → (ℕ → ℕ → Type 0) → ℕ → Type 0
@@ -16,12 +17,6 @@ abbrev pub NamedIn : Offers → List ℕ → (n s : ℕ) → Type 0
 NamedIn o rs n s = T (o.offered n s (named o rs n s))
 
 module _ (o : Offers) (H : ℕ) (P : ℕ → ℕ → Type 0) where
-  pub clear_none : Clear o H P 0
-  clear_none n s place l = absurd (omega (arith, place.from))
-
-  pub clear_all : (past : ℕ) → H ≤ past → Clear o H P past → (n s : ℕ) → Place o H n s → P n s
-  clear_all past all clear n s place = clear n s place (omega (arith, place.to))
-
   -- one visit more
   pub clear_more : (past n : ℕ) → n ≡ visit_after past → ((s : ℕ) → s < o.conditions → P n s) → Clear o H P past → Clear o H P (past + 1)
   clear_more past n e here clear k s place l = ⊎_elim
@@ -58,23 +53,57 @@ offered_below o n s k false e inside h = λ i t.
     let here = get_or-range_with_len 0 k i 0 low ∙ zero-add i in
     h i 0 (omega arith) (omega (arith, length-range_with_len 0 k)) (subst (λ x. T (o.offered n s x)) (sym here) t)
 
--- the part of a table that belongs to the visit after some
-module _ (o : Offers) (rs : List ℕ) (past n count H : ℕ) (v : n ≡ visit_after past) (all : count ≡ o.conditions) (here : past < H) (room : H * o.conditions ≤ length rs) where
-  abbrev pub visit_part : List ℕ
-  visit_part = take count (take (length rs - past * count) (drop (past * count) rs))
+-- of a table cut in H parts of a length, what is left to come past the first of them
+pub record PartsToCome (rs : List ℕ) (H long past left size : ℕ) (rest : List ℕ) : Type 0 where
+  pub whole : past + left ≡ H
+  pub sized : size ≡ long
+  pub cut : rest ≡ drop (past * long) rs
 
-  fits : past * count + count ≤ length rs
-  fits =
-      let on : past + 1 ≤ H = omega arith in
-      let same = ap (λ x. past * x) all in
-      omega (arith, room, same, mul-le-mul_right o.conditions on, add-mul past 1 o.conditions, one-mul o.conditions)
+-- before the first of them
+pub all_to_come : (rs : List ℕ) (H : ℕ) {long past left size : ℕ} {rest : List ℕ} → past ≡ 0 → left ≡ H → size ≡ long → rest ≡ rs → PartsToCome rs H long past left size rest
+all_to_come rs H {long} {past} none whole sized all =
+    let start : 0 ≡ past * long = omega (arith, ap (λ k. k * long) none, zero-mul long) in
+    record { whole = omega (arith, none, whole); sized = sized; cut = all ∙ ap (λ k. drop k rs) start }
 
-  pub part_long : length visit_part ≡ o.conditions
-  part_long = simp (length-take, length-drop) (omega (arith, fits, all))
+-- one part more, and what is said of it
+module _ (o : Offers) (rs : List ℕ) (H : ℕ) {long past left size past' size' row n : ℕ} {rest : List ℕ} {X : Type 0} (left' : ℕ) (part rest' : List ℕ) (all : long ≡ o.conditions) (visit : n ≡ min (visit_after row) (2 ^ 64 - 1)) (parts : PartsToCome rs H long past left size rest)
+    (step : (((size' ≡ size) × ((rest ≡ part ++ rest') × (length part ≡ size)) × X) × (left' + 1 ≡ left)) × (row ≡ past) × (past' ≡ past + 1) × (row + 1 < 2 ^ 64)) (clear : Clear o H (NamedIn o rs) past) where
+  visit_next : n ≡ visit_after past
+  visit_next = omega (arith, visit, step.1, step.3)
 
-  pub part_named : (s : ℕ) → s < o.conditions → get_or visit_part s 0 ≡ named o rs n s
-  part_named s l =
-      let a : s < count = omega arith in
-      let b : s < length rs - past * count = omega (arith, fits) in
-      let start : past * count ≡ (n - 1) * o.conditions = ap (λ x. past * x) all ∙ ap (λ x. x * o.conditions) (omega (arith, v)) in
-      get_or-take count _ s 0 a ∙ get_or-take _ _ s 0 b ∙ get_or-drop _ rs s 0 ∙ ap (λ x. get_or rs (x + s) 0) start
+  part_long : length part ≡ long
+  part_long = step.0.0.1.1 ∙ parts.sized
+
+  part_cut : drop (past * long) rs ≡ part ++ rest'
+  part_cut = sym parts.cut ∙ step.0.0.1.0
+
+  part_names : (s : ℕ) → s < o.conditions → get_or part s 0 ≡ named o rs n s
+  part_names s l =
+      let start : past * long ≡ (n - 1) * o.conditions = ap (λ x. past * x) all ∙ ap (λ x. x * o.conditions) (omega (arith, visit_next)) in
+      sym (get_or_append_left part rest' 0 s (omega (arith, part_long, all))) ∙ ap (λ xs. get_or xs s 0) (sym part_cut) ∙ get_or-drop _ rs s 0 ∙ ap (λ x. get_or rs (x + s) 0) start
+
+  pub misnamed_in_part : (s r : ℕ) → FirstMisnamedAt o n part (Some (s, r)) → FirstMisnamed o rs H n s r
+  misnamed_in_part s r found =
+      let inside : s < o.conditions = omega (arith, found.0, part_long, all) in
+      record {
+        place = record { from = omega (arith, visit_next); to = omega (arith, visit_next, parts.whole, step.0.1); condition = inside };
+        names = found.1.0 ∙ part_names s inside;
+        not_offered = found.1.1;
+        first = clear_before o H (NamedIn o rs) past n s visit_next (λ j l. subst (λ r. T (o.offered n j r)) (part_names j (omega (arith, inside))) (found.2 j l)) clear;
+      }
+
+  pub part_well_named : FirstMisnamedAt o n part None → PartsToCome rs H long past' left' size' rest' × Clear o H (NamedIn o rs) past'
+  part_well_named each =
+      let on : past * long + long ≡ past' * long = omega (arith, add-mul past 1 long, one-mul long, ap (λ x. x * long) step.2) in
+      let cut : rest' ≡ drop (past' * long) rs = sym (drop_at part rest' long part_long) ∙ ap (drop long) (sym part_cut) ∙ drop-drop long (past * long) rs ∙ ap (λ x. drop x rs) on in
+      let clear_then = clear_more o H (NamedIn o rs) past n visit_next (λ s l. subst (λ r. T (o.offered n s r)) (part_names s l) (each s (omega (arith, part_long, all)))) clear in
+      (record { whole = omega (arith, parts.whole, step.0.1, step.2); sized = step.0.0.0 ∙ parts.sized; cut = cut }, subst (Clear o H (NamedIn o rs)) (sym step.2) clear_then)
+
+-- where no part is left, every visit has had its own
+pub no_part_left : (rs : List ℕ) (H : ℕ) {long past left size : ℕ} {rest : List ℕ} → H * long ≤ length rs → PartsToCome rs H long past left size rest → (0 < left → length rest < size) → H ≤ past
+no_part_left rs H {long} {past} {left} room parts short = ⊎_elim
+    (λ l.
+    let on : past + 1 ≤ H = omega (arith, parts.whole) in
+    absurd (omega (arith, short l, parts.sized, ap length parts.cut, room, length-drop (past * long) rs, mul-le-mul_right long on, add-mul past 1 long, one-mul long)))
+    (λ l. omega (arith, parts.whole))
+    (cases_lt 0 left)

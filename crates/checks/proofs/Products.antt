@@ -1,6 +1,39 @@
--- A product that is held within 128 bits, one factor more.
-use Rattle.std.proofs.Common.{◌≡◌, ℕ, ◌+◌, ◌-◌, ◌*◌, ◌^◌, ◌<◌, ◌≤◌, min, sym, ap, ◌∙◌, ⊎_elim, mul-le-mul_left, mul-zero, mul-one, arith}
+-- A product that is held within 128 bits: a power, and one factor more.
+use Rattle.std.proofs.Common.{◌≡◌, ℕ, zero, suc, ◌+◌, ◌-◌, ◌*◌, ◌^◌, ◌<◌, ◌≤◌, min, sym, ap, ◌∙◌, ⊎_elim, le_trans, pow-suc, mul-le-mul_left, mul-zero, mul-one, arith}
+use native.Mathlib.Nat.{pow-zero, pow-le-pow_left, pow-le-pow_right}
 use Rattle.std.proofs.lemmas.Bool.{cases_lt}
+
+zero_power : (e : ℕ) → 0 < e → 0 ^ e ≡ 0
+zero_power zero h = absurd (let f : 0 < 0 = h in omega arith)
+zero_power (suc e) h = pow-suc 0 e ∙ mul-zero (0 ^ e)
+
+one_power : (e : ℕ) → 1 ^ e ≡ 1
+one_power zero = pow-zero 1
+one_power (suc e) = pow-suc 1 e ∙ mul-one (1 ^ e) ∙ one_power e
+
+large_power : (b e : ℕ) → 2 ≤ b → 128 ≤ e → min (b ^ e) (2 ^ 128 - 1) ≡ 2 ^ 128 - 1
+large_power b e low far =
+    let up : 2 ^ 128 ≤ b ^ e = le_trans (pow-le-pow_left low 128) (pow-le-pow_right (omega arith) far) in
+    omega arith
+
+-- from 128 on a power is 0, 1 or held
+pub power_to_128 : (b e : ℕ) → min (b ^ min e 128) (2 ^ 128 - 1) ≡ min (b ^ e) (2 ^ 128 - 1)
+power_to_128 b e = ⊎_elim near (far b) (cases_lt e 128)
+  where
+    near : e < 128 → min (b ^ min e 128) (2 ^ 128 - 1) ≡ min (b ^ e) (2 ^ 128 - 1)
+    near h =
+        let same : min e 128 ≡ e = omega arith in
+        ap (λ (n : ℕ). min (b ^ n) (2 ^ 128 - 1)) same
+
+    to : (a : ℕ) → 128 ≤ e → min (a ^ 128) (2 ^ 128 - 1) ≡ min (a ^ e) (2 ^ 128 - 1) → min (a ^ min e 128) (2 ^ 128 - 1) ≡ min (a ^ e) (2 ^ 128 - 1)
+    to a h same =
+        let held : min e 128 ≡ 128 = omega arith in
+        ap (λ (n : ℕ). min (a ^ n) (2 ^ 128 - 1)) held ∙ same
+
+    far : (a : ℕ) → 128 ≤ e → min (a ^ min e 128) (2 ^ 128 - 1) ≡ min (a ^ e) (2 ^ 128 - 1)
+    far zero h = to 0 h (ap (λ (n : ℕ). min n (2 ^ 128 - 1)) (zero_power 128 (omega arith) ∙ sym (zero_power e (omega arith))))
+    far (suc zero) h = to 1 h (ap (λ (n : ℕ). min n (2 ^ 128 - 1)) (one_power 128 ∙ sym (one_power e)))
+    far (suc (suc a)) h = to (suc (suc a)) h (large_power (suc (suc a)) 128 (omega arith) (omega arith) ∙ sym (large_power (suc (suc a)) e (omega arith) h))
 
 -- holding before one more factor changes nothing
 held_times : (a b : ℕ) → min (min a (2 ^ 128 - 1) * b) (2 ^ 128 - 1) ≡ min (a * b) (2 ^ 128 - 1)

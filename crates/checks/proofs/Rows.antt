@@ -1,8 +1,8 @@
 -- A row at once: what is gathered over the next conditions one by one is gathered over the outcomes of share above 0.
 use Rattle.std.proofs.Common.{◌≡◌, ℕ, zero, suc, ◌+◌, ◌*◌, ◌^◌, ◌<◌, ◌≤◌, max, Bool, true, false, cond, ltb, List, [], ◌∷◌, ◌++◌, length, get_or, pos, nat_abs, fold, sum_by, refl, sym, ap, ◌∙◌, subst, arith}
-use Rattle.std.specs.List.{AllByRecursion as All}
-use Rattle.std.proofs.ByRecursion.{All-push, All-get_or}
+use Rattle.std.specs.List.{All}
 use Rattle.std.proofs.lemmas.Bool.{ltb-false}
+use Rattle.std.proofs.lemmas.List.Elements.{All-nil, All-push, All-get_or}
 use Rattle.std.proofs.lemmas.List.Sums.{fold_push, sum_by-append}
 use Rattle.model.specs.Model.{Model, Lawful, weight}
 use Rattle.model.specs.Rows.{outcome, outcomes}
@@ -26,7 +26,7 @@ module _ (m : Model) (n s r : ℕ) where
       go so false = so
 
   pub all_outcomes : (P : Outcome → Type 0) (j : ℕ) → ((i : ℕ) → i < j → P (outcome m n s r i)) → All P (outcomes m n s r j)
-  all_outcomes P zero each = tt
+  all_outcomes P zero each = All-nil P
   all_outcomes P (suc j) each = go (all_outcomes P j (λ i l. each i (omega arith))) (ltb 0 (m.share n s r j))
     where
       go : All P (outcomes m n s r j) → (b : Bool) → All P (cond b (outcomes m n s r j ++ (outcome m n s r j ∷ [])) (outcomes m n s r j))

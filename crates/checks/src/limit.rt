@@ -41,7 +41,7 @@ fn greatest_under<B: Book>(
     greatest_amount(row.as_slice())
 }
 
-// The largest under a remedy that is offered there.
+// The largest size of an amount of share above 0 in a condition, under any remedy that is offered there.
 fn greatest_in<B: Book>(book: &B, visit: usize, condition: usize, row: &mut Row) -> u64
     ensures { result ≡ largest_in (B.model book.now) visit condition }
 {
@@ -52,7 +52,7 @@ fn greatest_in<B: Book>(book: &B, visit: usize, condition: usize, row: &mut Row)
         .unwrap_or(0)
 }
 
-// The largest at a visit, in any condition.
+// The largest size of an amount of share above 0 at a visit, in any condition, under any remedy that is offered there.
 fn greatest_at<B: Book>(book: &B, visit: usize, row: &mut Row) -> u64
     ensures { result ≡ largest_at (B.model book.now) visit }
 {
@@ -76,13 +76,12 @@ fn peak<B: Book>(book: &B, visits: usize) -> u64
 
 const LIMIT: u128 = 1 << 62;
 
-// Whether parts ^ visits × (visits + 1) × peak does not pass the limit.
+// Whether parts ^ visits × (visits + 1) × peak does not pass the limit. From 128 visits on the power is 0, 1 or past it.
 fn within_limit(parts: u32, visits: usize, peak: u64) -> bool
-    requires { visits ≤ 48 }
     ensures { MatchBool result (WithinLimit parts visits peak) (WithinLimit parts visits peak → ⊥) }
 {
     let product = u128::from(parts)
-        .saturating_pow(visits as u32)
+        .saturating_pow(visits.min(128) as u32)
         .saturating_mul(visits as u128 + 1)
         .saturating_mul(u128::from(peak));
     product <= LIMIT
@@ -90,7 +89,6 @@ fn within_limit(parts: u32, visits: usize, peak: u64) -> bool
 
 // Whether the numbers of the book stay small enough over the visits.
 pub(crate) fn fits<B: Book>(book: &B, visits: usize) -> bool
-    requires { visits ≤ 48 }
     ensures { MatchBool result (Fits (B.model book.now) visits) (Fits (B.model book.now) visits → ⊥) }
 {
     within_limit(book.parts(), visits, peak(book, visits))

@@ -29,7 +29,6 @@ fn check_room<B: Book>(
 
 // The shares and the number limit.
 fn check_numbers<B: Book>(book: &B, visits: usize) -> Result<(), PlanRefusal>
-    requires { visits ≤ 48 }
     ensures { NumbersChecked (B.model book.now) visits result }
 {
     if let Some((visit, condition, remedy)) = first_uneven(book, visits) {

@@ -59,14 +59,14 @@ fn is_uneven<B: Book>(
     total_share(row.as_slice()) != book.parts()
 }
 
-// The first such remedy in the condition.
+// The first remedy offered in the condition whose shares do not add to the parts.
 fn uneven_remedy<B: Book>(book: &B, visit: usize, condition: usize, row: &mut Row) -> Option<usize>
     ensures { FirstUnevenIn (B.model book.now) visit condition result }
 {
     (0..book.remedies()).find(|remedy| is_uneven(book, visit, condition, *remedy, row))
 }
 
-// The first such remedy at the visit, with its condition.
+// The first condition of the visit with an offered remedy whose shares do not add to the parts, and that remedy.
 fn uneven_place<B: Book>(book: &B, visit: usize, row: &mut Row) -> Option<(usize, usize)>
     ensures { FirstUnevenAt (B.model book.now) visit result }
 {
@@ -95,13 +95,11 @@ pub(crate) fn first_uneven<B: Book>(book: &B, visits: usize) -> Option<(usize, u
 fn misnamed_condition<B: Book>(book: &B, visit: usize, named: &[u8]) -> Option<(usize, usize)>
     ensures { FirstMisnamedAt (offers (B.model book.now)) visit named.now result }
 {
-    for (condition, remedy) in named.iter().enumerate() {
-        let remedy = usize::from(*remedy);
-        if !book.offered(visit, condition, remedy) {
-            return Some((condition, remedy));
-        }
-    }
-    None
+    named
+        .iter()
+        .map(|remedy| usize::from(*remedy))
+        .enumerate()
+        .find(|(condition, remedy)| !book.offered(visit, *condition, *remedy))
 }
 
 // The first place where the table names a remedy that is not offered, with that remedy.
@@ -114,9 +112,8 @@ pub(crate) fn first_misnamed<B: Book>(
     ensures { MatchOption result (WellNamed (offers (B.model book.now)) remedies.now visits) (λ p. FirstMisnamed (offers (B.model book.now)) remedies.now visits p.0 p.1 p.2) }
 {
     let conditions = book.conditions();
-    for row in 0..visits {
+    for (row, named) in remedies.chunks_exact(conditions).take(visits).enumerate() {
         let visit = visit_of(row);
-        let named = &remedies[row * conditions..][..conditions];
         if let Some((condition, remedy)) = misnamed_condition(book, visit, named) {
             return Some((visit, condition, remedy));
         }

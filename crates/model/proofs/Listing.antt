@@ -1,6 +1,6 @@
 -- One next condition more of a row.
-use Rattle.std.proofs.Common.{◌≡◌, ℕ, ◌+◌, ◌<◌, ◌≤◌, ltb, [], ◌∷◌, ◌++◌, sym, ap, ◌∙◌, add-one, le-ltb, lt-ltb}
-use Rattle.std.proofs.lemmas.Bool.{cond-true, cond-false}
+use Rattle.std.proofs.Common.{◌≡◌, ℕ, ◌+◌, ◌<◌, ltb, [], ◌∷◌, ◌++◌, sym, ap, ◌∙◌, add-one, lt-ltb}
+use Rattle.std.proofs.lemmas.Bool.{cond-true}
 use Rattle.model.specs.Model.{Model}
 use Rattle.model.specs.Rows.{outcome, outcomes}
 
@@ -8,9 +8,4 @@ module _ (m : Model) (n s r j : ℕ) where
   pub listed_more : 0 < m.share n s r j → outcomes m n s r j ++ (outcome m n s r j ∷ []) ≡ outcomes m n s r (j + 1)
   listed_more some =
       sym (cond-true (ltb 0 (m.share n s r j)) (outcomes m n s r j ++ (outcome m n s r j ∷ [])) (outcomes m n s r j) (lt-ltb 0 _ some))
-      ∙ ap (outcomes m n s r) (sym (add-one j))
-
-  pub listed_skip : m.share n s r j ≤ 0 → outcomes m n s r j ≡ outcomes m n s r (j + 1)
-  listed_skip none =
-      sym (cond-false (ltb 0 (m.share n s r j)) (outcomes m n s r j ++ (outcome m n s r j ∷ [])) (outcomes m n s r j) (le-ltb 0 _ none))
       ∙ ap (outcomes m n s r) (sym (add-one j))

@@ -1,16 +1,14 @@
 use Rattle.std.proofs.Common.{◌≡◌, min, sym, ap, ◌∙◌, subst, arith}
 use Rattle.checks.specs.Limit.{Peak, greatest}
 use Rattle.checks.proofs.Peaks.{has_a_peak}
-use Rattle.checks.proofs.Alike.{asked_at, greatest_alike}
+use Rattle.checks.proofs.Alike.{walk_on, greatest_alike}
 use Rattle.checks.proofs.limit.peak.Goals as goal
 
 pub loop-visit-preserved : goal.loop-visit-preserved
 loop-visit-preserved g c =
     let m = g.B.Book.model c.args.book.now in
     let i = c.loop-visit.invariant in
-    let step = c.in-Some.ensures.steps in
-    let asked = asked_at m _ c.args.visits _ _ _ _ (ap g.B.Book.model i.0) i.1 step.2 in
-    (ap (λ b. b.now) step.0 ∙ i.0, step.1 ∙ i.1, c.max-top-in-loop-visit.ensures ∙ greatest_alike m _ _ _ _ _ _ asked i.2 c.greatest_at.ensures)
+    walk_on g.B.Book.model c.args.book.now c.args.visits c.in-Some.ensures.steps i.0 i.1 (λ asked. c.max-top-in-loop-visit.ensures ∙ greatest_alike m _ _ _ _ _ _ asked i.2 c.greatest_at.ensures)
 
 pub returns : goal.returns
 returns g c =

@@ -1,34 +1,34 @@
-use Rattle.std.proofs.Common.{◌≡◌, ◌<◌, T, ◌∙◌, subst, arith}
+use Rattle.std.proofs.Common.{◌*◌, ◌≤◌, length, ap, ◌∙◌, arith}
+use Rattle.std.specs.Iterator.Adapters.{enumerate_source, enumerate_count, take_source, take_count}
+use Rattle.std.specs.Slice.Iter.{chunks_exact_rest, chunks_exact_size}
 use Rattle.model.specs.Model.{offers}
-use Rattle.model.specs.Visits.{visit_after}
-use Rattle.checks.proofs.Places.{NamedIn, clear_more, clear_before, part_long, part_named}
+use Rattle.checks.proofs.Places.{all_to_come, no_part_left, misnamed_in_part, part_well_named}
 use Rattle.checks.proofs.search.first_misnamed.Goals as goal
 
-pub returns-in-Some : goal.returns-in-Some
-returns-in-Some g c =
+pub loop-row-init : goal.loop-row-init
+loop-row-init g c =
+    let same = c.into_iter-row-iterator.ensures.into_iter_gives in
+    let parts = ap enumerate_source same ∙ c.enumerate-row-items.ensures.source in
+    let chunks = ap take_source parts ∙ c.take.ensures.source in
+    let none = ap enumerate_count same ∙ c.enumerate-row-items.ensures.count in (
+      all_to_come c.args.remedies.now c.args.visits none (ap take_count parts ∙ c.take.ensures.count) (ap chunks_exact_size chunks ∙ c.chunks_exact.ensures.size) (ap chunks_exact_rest chunks ∙ c.chunks_exact.ensures.rest),
+      λ n s place l. absurd (omega (arith, place.from, l, none)),
+    )
+
+pub returns-in-Some-misnamed_condition : goal.returns-in-Some-misnamed_condition
+returns-in-Some-misnamed_condition g c =
     let o = offers (g.B.Book.model c.args.book.now) in
-    let rs = c.args.remedies.now in
-    let past = c.loop-row.row in
-    let n = c.visit_of-visit.result in
-    let v : n ≡ visit_after past = omega (arith, c.visit_of-visit.ensures, c.ranges.visits.fits) in
-    let long = part_long o rs past n c.conditions-conditions.result c.args.visits v c.conditions-conditions.ensures c.loop-row-test.true c.requires in
-    let here = part_named o rs past n c.conditions-conditions.result c.args.visits v c.conditions-conditions.ensures c.loop-row-test.true c.requires in
-    let found = c.in-Some.ensures in
-    let inside : c.in-Some.condition < o.conditions = omega (arith, found.0, long) in
-    record {
-      place = record { from = omega arith; to = omega (arith, c.loop-row-test.true); condition = inside };
-      names = found.1.0 ∙ here c.in-Some.condition inside;
-      not_offered = found.1.1;
-      first = clear_before o c.args.visits (NamedIn o rs) past n c.in-Some.condition v (λ j l. subst (λ r. T (o.offered n j r)) (here j (omega (arith, inside))) (found.2 j l)) c.loop-row.invariant;
-    }
+    let i = c.loop-row.invariant in
+    misnamed_in_part o c.args.remedies.now c.args.visits _ _ _ c.conditions-conditions.ensures c.visit_of-visit.ensures i.0 c.in-Some.ensures.steps i.1 _ _ c.in-Some-misnamed_condition.ensures
 
 pub loop-row-preserved : goal.loop-row-preserved
 loop-row-preserved g c =
     let o = offers (g.B.Book.model c.args.book.now) in
-    let rs = c.args.remedies.now in
-    let past = c.loop-row.row in
-    let n = c.visit_of-visit.result in
-    let v : n ≡ visit_after past = omega (arith, c.visit_of-visit.ensures, c.ranges.visits.fits) in
-    let long = part_long o rs past n c.conditions-conditions.result c.args.visits v c.conditions-conditions.ensures c.loop-row-test.true c.requires in
-    let here = part_named o rs past n c.conditions-conditions.result c.args.visits v c.conditions-conditions.ensures c.loop-row-test.true c.requires in
-    clear_more o c.args.visits (NamedIn o rs) past n v (λ s l. subst (λ r. T (o.offered n s r)) (here s l) (c.in_default.ensures s (omega (arith, long)))) c.loop-row.invariant
+    let i = c.loop-row.invariant in
+    part_well_named o c.args.remedies.now c.args.visits _ _ _ c.conditions-conditions.ensures c.visit_of-visit.ensures i.0 c.in-Some.ensures.steps i.1 c.in_default.ensures
+
+pub returns : goal.returns
+returns g c =
+    let i = c.loop-row.invariant in
+    let room : c.args.visits * c.conditions-conditions.result ≤ length c.args.remedies.now = omega (arith, c.requires, ap (λ x. c.args.visits * x) c.conditions-conditions.ensures) in
+    λ n s place. i.1 n s place (omega (arith, place.to, no_part_left c.args.remedies.now c.args.visits room i.0 (λ l. (c.in-None.ensures.steps.0 l).1.0)))

@@ -1,8 +1,8 @@
-use Rattle.std.proofs.Common.{ap, ◌∙◌, arith}
+use Rattle.std.proofs.Common.{ap, arith}
 use Rattle.model.specs.Model.{offers}
 use Rattle.model.specs.Visits.{SomeOffered}
 use Rattle.checks.proofs.Places.{clear_before}
-use Rattle.checks.proofs.Alike.{asked_at, clear_alike, some_alike}
+use Rattle.checks.proofs.Alike.{asked_at, walk_on, clear_alike, some_alike}
 use Rattle.checks.proofs.search.first_stuck.Goals as goal
 
 pub returns-in-Some-bare_condition : goal.returns-in-Some-bare_condition
@@ -21,6 +21,4 @@ pub loop-visit-preserved : goal.loop-visit-preserved
 loop-visit-preserved g c =
     let m = g.B.Book.model c.args.book.now in
     let i = c.loop-visit.invariant in
-    let step = c.in-Some.ensures.steps in
-    let asked = asked_at m _ c.args.visits _ _ _ _ (ap g.B.Book.model i.0) i.1 step.2 in
-    (ap (λ b. b.now) step.0 ∙ i.0, step.1 ∙ i.1, clear_alike m c.args.visits (SomeOffered (offers m)) _ _ _ asked (λ k s a x. some_alike m _ k a s x) c.in_default.ensures i.2)
+    walk_on g.B.Book.model c.args.book.now c.args.visits c.in-Some.ensures.steps i.0 i.1 (λ asked. clear_alike m c.args.visits (SomeOffered (offers m)) _ _ _ asked (λ k s a x. some_alike m _ k a s x) c.in_default.ensures i.2)
