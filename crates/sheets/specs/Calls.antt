@@ -16,6 +16,10 @@ Answered = Result ℕ NoteRefusal × List Note
 abbrev pub misspanned : Visits → Bool
 misspanned v = v.first == 0 || nat_lt v.last v.first || nat_lt 48 v.last
 
+-- the visits, unless no note may have them
+abbrev pub spanned : Visits → Result Visits NoteRefusal
+spanned v = cond (misspanned v) (Err Span) (Ok v)
+
 -- a surcharge past a million either way
 abbrev pub too_dear : ℤ → Bool
 too_dear a = int_lt (pos 1000000) a || int_lt a (negsuc 999999)

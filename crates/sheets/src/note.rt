@@ -1,6 +1,8 @@
 ghost use Rattle.std.specs.Prelude.{◌≡◌};
 ghost use Rattle.sheets.specs.Notes.{covers, visits_of, bars, charge};
-ghost use Rattle.sheets.specs.Calls.{misspanned, moved};
+ghost use Rattle.sheets.specs.Calls.{spanned, moved};
+
+use super::refusal::NoteRefusal;
 
 // The visits from first to last.
 #[derive(Clone, Copy, Debug, PartialEq)]
@@ -33,11 +35,14 @@ impl Visits {
         self.first <= visit && visit <= self.last
     }
 
-    // Whether no note may stand for these visits.
-    pub(crate) fn out_of_span(&self) -> bool
-        ensures { result ≡ misspanned self.now }
+    // The same visits, if a note may stand for them.
+    pub(crate) fn in_span(self) -> Result<Visits, NoteRefusal>
+        ensures { result ≡ spanned self }
     {
-        self.first == 0 || self.last < self.first || self.last > 48
+        if self.first == 0 || self.last < self.first || self.last > 48 {
+            return Err(NoteRefusal::Span);
+        }
+        Ok(self)
     }
 }
 

@@ -92,10 +92,8 @@ impl Notes {
         let visits = Visits {
             last,
             ..note.visits()
-        };
-        if visits.out_of_span() {
-            return Err(NoteRefusal::Span);
         }
+        .in_span()?;
         self.list[place - 1] = note.over(visits);
         Ok(place)
     }

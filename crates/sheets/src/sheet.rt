@@ -100,10 +100,7 @@ impl<B: Book> Sheet<B> {
         if condition >= self.conditions() || remedy >= self.remedies() {
             return Err(NoteRefusal::Unknown);
         }
-        let visits = Visits { first, last };
-        if visits.out_of_span() {
-            return Err(NoteRefusal::Span);
-        }
+        let visits = Visits { first, last }.in_span()?;
         self.notes.enter(Note::Bar {
             condition,
             remedy,
@@ -125,10 +122,7 @@ impl<B: Book> Sheet<B> {
         if remedy >= self.remedies() {
             return Err(NoteRefusal::Unknown);
         }
-        let visits = Visits { first, last };
-        if visits.out_of_span() {
-            return Err(NoteRefusal::Span);
-        }
+        let visits = Visits { first, last }.in_span()?;
         if !(-1_000_000..=1_000_000).contains(&amount) {
             return Err(NoteRefusal::Dear);
         }
