@@ -32,7 +32,7 @@ impl Visits {
     fn cover(&self, visit: usize) -> bool
         ensures { result ≡ covers self.now visit }
     {
-        self.first <= visit && visit <= self.last
+        (self.first..=self.last).contains(&visit)
     }
 
     // The same visits, if a note may stand for them.

@@ -18,7 +18,7 @@ pub struct Sheet<B> {
     notes: Notes,
 }
 
-// There was no memory for a sheet; the book comes back. (std's AllocFailed is std's to make: here it would be an error by hand.)
+// There was no memory for a sheet; the book comes back.
 #[derive(Drop)]
 pub struct NoMemory<B> {
     pub book: B,

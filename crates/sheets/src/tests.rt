@@ -17,7 +17,7 @@ struct Flat;
 fn within(visit: usize, condition: usize, remedy: usize, next: usize) -> bool
     ensures { result ≡ within_two visit condition remedy next }
 {
-    visit > 0 && visit <= 48 && condition < 2 && remedy < 2 && next < 2
+    (1..=48).contains(&visit) && condition < 2 && remedy < 2 && next < 2
 }
 
 impl Book for Flat {
