@@ -91,10 +91,10 @@ impl Notes {
         let note = self.get(place).ok_or(NoteRefusal::Unknown)?;
         let visits = Visits {
             last,
-            ..note.visits()
+            ..note.visits
         }
         .in_span()?;
-        self.list[place - 1] = note.over(visits);
+        self.list[place - 1] = Note { visits, ..note };
         Ok(place)
     }
 

@@ -5,7 +5,7 @@ ghost use Rattle.sheets.specs.Calls.{standing_at, to_bar, to_surcharge, to_prolo
 ghost use Rattle.sheets.specs.Laws.{BlankSheetIsTheBook, EnteringAddsOne, LiftingTakesOne, LiftingUndoesEntering};
 ghost use Rattle.sheets.specs.Keeping.{noted_lawful};
 
-use super::note::{Note, Visits};
+use super::note::{Effect, Note, Visits};
 use super::notes::Notes;
 use super::refusal::NoteRefusal;
 use model::Book;
@@ -101,10 +101,10 @@ impl<B: Book> Sheet<B> {
             return Err(NoteRefusal::Unknown);
         }
         let visits = Visits { first, last }.in_span()?;
-        self.notes.enter(Note::Bar {
-            condition,
+        self.notes.enter(Note {
             remedy,
             visits,
+            effect: Effect::Bar { condition },
         })
     }
 
@@ -126,10 +126,11 @@ impl<B: Book> Sheet<B> {
         if !(-1_000_000..=1_000_000).contains(&amount) {
             return Err(NoteRefusal::Dear);
         }
-        self.notes.enter(Note::Surcharge {
+        let amount = amount as i32;
+        self.notes.enter(Note {
             remedy,
-            amount: amount as i32,
             visits,
+            effect: Effect::Surcharge { amount },
         })
     }
 
