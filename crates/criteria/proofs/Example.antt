@@ -1,7 +1,11 @@
 -- A book with one condition and one remedy meets all that the laws ask.
-use Rattle.std.proofs.Common.{◌≡◌, ℕ, suc, ◌+◌, ◌<◌, ◌≤◌, Bool, true, false, cond, ◌&&◌, T, leb, pos, refl, ap, subst, arith, lit≤, le→leb, leb→le}
-use Rattle.std.proofs.lemmas.Int.{ints}
-use Rattle.model.specs.Model.{Model, offers, Lawful, Inside, Money}
+use Rattle.std.proofs.Common.{◌≡◌, ℕ, suc, ◌+◌, ◌<◌, ◌≤◌, Bool, true, cond, ◌&&◌, T, leb, pos, refl, ap, subst, arith, lit≤, leb→le}
+use Rattle.std.specs.Bool.{passes}
+use Rattle.std.proofs.Math.Facts.{and_yes}
+use Rattle.std.proofs.lemmas.Bool.{cond_both}
+use Rattle.std.proofs.lemmas.Bool.Decides.{nat_tests}
+use Rattle.model.specs.Model.{Model, offers, Lawful, Inside}
+use Rattle.model.specs.Passed.{is_true, some_of, nothing}
 use Rattle.model.specs.Visits.{visit_after, Even, Fits}
 use Rattle.criteria.specs.Criteria.{Ops, Laws}
 use Rattle.criteria.specs.Policies.{remedied}
@@ -17,33 +21,10 @@ sits n s r = leb 1 n && (leb n 48 && (leb s 0 && leb r 0))
 abbrev one : Model
 one = record { conditions = 1; remedies = 1; parts = 1; offered = sits; share = λ n s r j. cond (sits n s r && leb j 0) 1 0; amount = λ n s r j. pos 0; worth = λ s. pos 0 }
 
-both : (a b : Bool) → T (a && b) → T a × T b
-both true true h = (tt, tt)
-both true false h = absurd h
-both false true h = absurd h
-both false false h = absurd h
-
-join : (a b : Bool) → T a → T b → T (a && b)
-join true b x y = y
-join false b x y = absurd x
-
-yes_share : (b : Bool) → 0 < cond b 1 0 → T b
-yes_share true h = tt
-yes_share false h = absurd (omega arith)
-
-share_low : (b : Bool) → cond b 1 0 ≤ 1
-share_low true = omega arith
-share_low false = omega arith
-
 inside : (n s r : ℕ) → T (sits n s r) → Inside (offers one) n s r
 inside n s r h =
-    let a = both (leb 1 n) (leb n 48 && (leb s 0 && leb r 0)) h in
-    let b = both (leb n 48) (leb s 0 && leb r 0) a.1 in
-    let c = both (leb s 0) (leb r 0) b.1 in
-    record { first_visit = leb→le 1 n a.0; last_visit = leb→le n 48 b.0; some_condition = omega (arith, leb→le s 0 c.0); some_remedy = omega (arith, leb→le r 0 c.1) }
-
-nothing : Money (pos 0)
-nothing = record { low = omega (arith, ints); high = omega (arith, ints) }
+    let all = is_true (sits n s r) h in
+    record { first_visit = grind (arith, nat_tests); last_visit = grind (arith, nat_tests); some_condition = grind (arith, nat_tests); some_remedy = grind (arith, nat_tests) }
 
 lawful : Lawful one
 lawful = record {
@@ -53,21 +34,17 @@ lawful = record {
   few_remedies = lit≤ tt;
   some_parts = lit≤ tt;
   few_parts = lit≤ tt;
-  share_fits = λ n s r j. share_low (sits n s r && leb j 0);
+  share_fits = λ n s r j. cond_both (sits n s r && leb j 0) 1 0 (λ x. x ≤ 1) (λ _. lit≤ tt) (λ _. lit≤ tt);
   amount_fits = λ n s r j. nothing;
   worth_fits = λ s. nothing;
   offered_inside = inside;
-  share_inside = λ n s r j h. let a = both (sits n s r) (leb j 0) (yes_share _ h) in (inside n s r a.0, omega (arith, leb→le j 0 a.1));
+  share_inside = λ n s r j h. let a = and_yes (sits n s r) (leb j 0) (some_of _ 1 h) in (inside n s r a.0, omega (arith, leb→le j 0 a.1));
   amount_inside = λ n s r j h. absurd (h refl);
   worth_inside = λ s h. absurd (h refl);
 }
 
 even : Even one 48
-even n s r place h = let e : sits n s r ≡ true = is_so (sits n s r) h in ap (λ b. 0 + cond (b && true) 1 0) e
-  where
-    is_so : (b : Bool) → T b → b ≡ true
-    is_so true h = refl
-    is_so false h = absurd h
+even n s r place h = ap (λ b. 0 + cond (b && true) 1 0) (is_true (sits n s r) h)
 
 fits : Fits one 48
 fits = (1, record { one = lit≤ tt; worths = λ s l. lit≤ tt; amounts = λ n s r j place h l. lit≤ tt }, lit≤ tt)
@@ -77,11 +54,7 @@ planned : {V A : Type 0} (o : Ops V A) (better : A → A → Type 0) → Laws o 
 planned o better laws = record { offers = offered; best = best }
   where
     offered : (past s : ℕ) → past < 48 → s < 1 → T (sits (visit_after past) s 0)
-    offered past s l i =
-        let none : s ≤ 0 = omega arith in
-        let low : 1 ≤ suc past = omega arith in
-        let high : suc past ≤ 48 = omega arith in
-        join _ _ (le→leb 1 (suc past) low) (join _ _ (le→leb (suc past) 48 high) (join _ _ (le→leb s 0 none) tt))
+    offered past s l i = passes (sits (visit_after past) s 0) (grind (arith, nat_tests))
 
     best : (past k s r : ℕ) → past + suc k ≡ 48 → s < 1 → T (sits (visit_after past) s r) → T (o.good (ahead o one (λ past s. 0) past (suc k) s) (remedied o one (visit_after past) (suc k) s r (λ j. ahead o one (λ past s. 0) (suc past) k j)))
     best past k s r e i here =

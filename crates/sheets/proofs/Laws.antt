@@ -6,10 +6,10 @@ use Rattle.std.proofs.lemmas.List.{append-nil, length_push, take-append-drop, ta
 use Rattle.std.proofs.lemmas.List.Folds.{list_any-append}
 use Rattle.std.proofs.lemmas.Int.{ints}
 use Rattle.std.proofs.lemmas.Bool.{le-leb, and_from}
+use Rattle.std.proofs.Math.Facts.{and_yes}
 use Rattle.sheets.specs.declared.note.Note.{Note}
 use Rattle.sheets.specs.Notes.{bars, barred, charge, surcharged}
 use Rattle.sheets.specs.Calls.{Answered, stands_at, no_note, note_at, to_lift}
-use Rattle.sheets.specs.Keeping.{both}
 use Rattle.sheets.specs.Laws.{EnteringAddsOne, LiftingTakesOne, LiftingUndoesEntering}
 
 surcharged_append : (xs ys : List Note) (n r : ℕ) → surcharged (xs ++ ys) n r ≡ surcharged xs n r +ℤ surcharged ys n r
@@ -46,7 +46,7 @@ add_swap a x b = omega (arith, ints)
 
 pub lifting_takes_one : LiftingTakesOne
 lifting_takes_one ns p n s r h =
-    let at = both (leb 1 p) (leb p (length ns)) h in
+    let at = and_yes (leb 1 p) (leb p (length ns)) h in
     let split = parted ns p (leb→le 1 p at.0) (leb→le p (length ns) at.1) in
     let left = take (p - 1) ns in
     let right = drop p ns in

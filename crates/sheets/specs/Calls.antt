@@ -3,8 +3,7 @@ use Rattle.std.specs.Prelude.{ℕ, suc, ◌-◌, Bool, cond, not, ◌&&◌, ◌|
 use Rattle.model.specs.Model.{Offers}
 use Rattle.sheets.specs.declared.note.Visits.{Visits}
 use Rattle.sheets.specs.declared.note.Note.{Note}
-use Rattle.sheets.specs.declared.note.Note.TheVariants.{Bar, Surcharge}
-use Rattle.sheets.specs.Notes.{visits_of}
+use Rattle.sheets.specs.declared.note.Effect.TheVariants.{Bar, Surcharge}
 use Rattle.sheets.specs.declared.refusal.NoteRefusal.{NoteRefusal}
 use Rattle.sheets.specs.declared.refusal.NoteRefusal.TheVariants.{Unknown, Span, Dear, Full}
 
@@ -15,6 +14,10 @@ Answered = Result ℕ NoteRefusal × List Note
 -- visits that no note may have: the first below 1, the last before the first or past 48
 abbrev pub misspanned : Visits → Bool
 misspanned v = v.first == 0 || nat_lt v.last v.first || nat_lt 48 v.last
+
+-- the visits, unless no note may have them
+abbrev pub spanned : Visits → Result Visits NoteRefusal
+spanned v = cond (misspanned v) (Err Span) (Ok v)
 
 -- a surcharge past a million either way
 abbrev pub too_dear : ℤ → Bool
@@ -28,19 +31,18 @@ abbrev pub to_bar : Offers → List Note → (s r : ℕ) → Visits → Answered
 to_bar o ns s r v =
     cond (nat_le o.conditions s || nat_le o.remedies r) (Err Unknown, ns)
     (cond (misspanned v) (Err Span, ns)
-    (entering ns (Bar s r v)))
+    (entering ns (record { remedy = r; visits = v; effect = Bar s })))
 
 abbrev pub to_surcharge : Offers → List Note → (r : ℕ) (a : ℤ) → Visits → Answered
 to_surcharge o ns r a v =
     cond (nat_le o.remedies r) (Err Unknown, ns)
     (cond (misspanned v) (Err Span, ns)
     (cond (too_dear a) (Err Dear, ns)
-    (entering ns (Surcharge r a v))))
+    (entering ns (record { remedy = r; visits = v; effect = Surcharge a }))))
 
 -- the note for other visits
 abbrev pub moved : Note → Visits → Note
-moved (Bar s r v) w = Bar s r w
-moved (Surcharge r a v) w = Surcharge r a w
+moved x w = record { remedy = x.remedy; visits = w; effect = x.effect }
 
 -- the same visits up to another last one
 abbrev pub until : Visits → ℕ → Visits
@@ -51,7 +53,7 @@ stands_at ns place = nat_le 1 place && nat_le place (length ns)
 
 -- read where no note stands
 abbrev pub no_note : Note
-no_note = Bar 0 0 (record { first = 0; last = 0 })
+no_note = record { remedy = 0; visits = record { first = 0; last = 0 }; effect = Bar 0 }
 
 -- the note that stands at a place
 abbrev pub note_at : List Note → ℕ → Note
@@ -63,7 +65,7 @@ standing_at ns place = cond (stands_at ns place) (Some (note_at ns place)) None
 abbrev pub to_prolong : List Note → (place last : ℕ) → Answered
 to_prolong ns p l =
     let x = note_at ns p in
-    let v = until (visits_of x) l in
+    let v = until x.visits l in
     cond (not (stands_at ns p)) (Err Unknown, ns)
     (cond (misspanned v) (Err Span, ns)
     (Ok p, slice_set ns (p - 1) (moved x v)))

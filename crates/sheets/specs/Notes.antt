@@ -5,28 +5,36 @@ use Rattle.std.specs.List.{list_any}
 use Rattle.model.specs.Model.{Model, Offers, offers}
 use Rattle.sheets.specs.declared.note.Visits.{Visits}
 use Rattle.sheets.specs.declared.note.Note.{Note}
-use Rattle.sheets.specs.declared.note.Note.TheVariants.{Bar, Surcharge}
+use Rattle.sheets.specs.declared.note.Effect.{Effect}
+use Rattle.sheets.specs.declared.note.Effect.TheVariants.{Bar, Surcharge}
 
 -- a visit from first to last
 abbrev pub covers : Visits → (visit : ℕ) → Bool
 covers v visit = nat_le v.first visit && nat_le visit v.last
 
-abbrev pub visits_of : Note → Visits
-visits_of (Bar s r v) = v
-visits_of (Surcharge r a v) = v
+-- a note for the remedy r at the visit n
+abbrev pub about : Note → (n r : ℕ) → Bool
+about x n r = covers x.visits n && x.remedy == r
+
+-- the condition in which an effect bars
+abbrev pub barring : Effect → (s : ℕ) → Bool
+barring (Bar s') s = s' == s
+barring (Surcharge a) s = false
+
+abbrev pub added : Effect → ℤ
+added (Bar s) = pos 0
+added (Surcharge a) = a
 
 -- whether a note bars the remedy r in the condition s at the visit n
 abbrev pub bars : Note → (n s r : ℕ) → Bool
-bars (Bar s' r' v) n s r = covers v n && s' == s && r' == r
-bars (Surcharge r' a v) n s r = false
+bars x n s r = about x n r && barring x.effect s
 
 abbrev pub barred : List Note → (n s r : ℕ) → Bool
 barred ns n s r = list_any (λ x. bars x n s r) ns
 
 -- what a note adds to the amounts of the remedy r at the visit n
 abbrev pub charge : Note → (n r : ℕ) → ℤ
-charge (Bar s' r' v) n r = pos 0
-charge (Surcharge r' a v) n r = cond (covers v n && r' == r) a (pos 0)
+charge x n r = cond (about x n r) (added x.effect) (pos 0)
 
 abbrev pub surcharged : List Note → (n r : ℕ) → ℤ
 surcharged [] n r = pos 0

@@ -91,12 +91,10 @@ impl Notes {
         let note = self.get(place).ok_or(NoteRefusal::Unknown)?;
         let visits = Visits {
             last,
-            ..note.visits()
-        };
-        if visits.out_of_span() {
-            return Err(NoteRefusal::Span);
+            ..note.visits
         }
-        self.list[place - 1] = note.over(visits);
+        .in_span()?;
+        self.list[place - 1] = Note { visits, ..note };
         Ok(place)
     }
 

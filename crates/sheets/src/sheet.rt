@@ -5,7 +5,7 @@ ghost use Rattle.sheets.specs.Calls.{standing_at, to_bar, to_surcharge, to_prolo
 ghost use Rattle.sheets.specs.Laws.{BlankSheetIsTheBook, EnteringAddsOne, LiftingTakesOne, LiftingUndoesEntering};
 ghost use Rattle.sheets.specs.Keeping.{noted_lawful};
 
-use super::note::{Note, Visits};
+use super::note::{Effect, Note, Visits};
 use super::notes::Notes;
 use super::refusal::NoteRefusal;
 use model::Book;
@@ -18,7 +18,7 @@ pub struct Sheet<B> {
     notes: Notes,
 }
 
-// There was no memory for a sheet; the book comes back. (std's AllocFailed is std's to make: here it would be an error by hand.)
+// There was no memory for a sheet; the book comes back.
 #[derive(Drop)]
 pub struct NoMemory<B> {
     pub book: B,
@@ -100,14 +100,11 @@ impl<B: Book> Sheet<B> {
         if condition >= self.conditions() || remedy >= self.remedies() {
             return Err(NoteRefusal::Unknown);
         }
-        let visits = Visits { first, last };
-        if visits.out_of_span() {
-            return Err(NoteRefusal::Span);
-        }
-        self.notes.enter(Note::Bar {
-            condition,
+        let visits = Visits { first, last }.in_span()?;
+        self.notes.enter(Note {
             remedy,
             visits,
+            effect: Effect::Bar { condition },
         })
     }
 
@@ -125,17 +122,15 @@ impl<B: Book> Sheet<B> {
         if remedy >= self.remedies() {
             return Err(NoteRefusal::Unknown);
         }
-        let visits = Visits { first, last };
-        if visits.out_of_span() {
-            return Err(NoteRefusal::Span);
-        }
+        let visits = Visits { first, last }.in_span()?;
         if !(-1_000_000..=1_000_000).contains(&amount) {
             return Err(NoteRefusal::Dear);
         }
-        self.notes.enter(Note::Surcharge {
+        let amount = amount as i32;
+        self.notes.enter(Note {
             remedy,
-            amount: amount as i32,
             visits,
+            effect: Effect::Surcharge { amount },
         })
     }
 

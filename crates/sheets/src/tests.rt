@@ -2,7 +2,7 @@ ghost use Rattle.std.specs.Prelude.{◌≡◌};
 ghost use Rattle.sheets.specs.Flat.{within_two, flat_model, flat_lawful};
 ghost use Rattle.sheets.specs.Notes.{noted};
 
-use super::note::{Note, Visits};
+use super::note::{Effect, Note, Visits};
 use super::refusal::NoteRefusal;
 use super::refusal::NoteRefusal::*;
 use super::sheet::Sheet;
@@ -17,7 +17,7 @@ struct Flat;
 fn within(visit: usize, condition: usize, remedy: usize, next: usize) -> bool
     ensures { result ≡ within_two visit condition remedy next }
 {
-    visit > 0 && visit <= 48 && condition < 2 && remedy < 2 && next < 2
+    (1..=48).contains(&visit) && condition < 2 && remedy < 2 && next < 2
 }
 
 impl Book for Flat {
@@ -120,10 +120,10 @@ fn full_sheet(rt: HostRuntime) -> Result<(), Fail> {
     assert_eq!(rt; sheet.prolong(24, 49), Err(Unknown));
     assert_eq!(rt;
         sheet.note(7),
-        Some(Note::Bar {
-            condition: 0,
+        Some(Note {
             remedy: 1,
             visits: Visits { first: 1, last: 48 },
+            effect: Effect::Bar { condition: 0 },
         })
     );
     assert_eq!(rt; sheet.surcharge(0, 0, 1, 1), Ok(24));

@@ -29,11 +29,7 @@ impl Book for Switch {
     }
 
     fn share(&self, visit: usize, condition: usize, remedy: usize, next: usize) -> u32 {
-        if self.offered(visit, condition, remedy) && next == remedy {
-            1
-        } else {
-            0
-        }
+        u32::from(self.offered(visit, condition, remedy) && next == remedy)
     }
 
     fn amount(&self, _visit: usize, _condition: usize, _remedy: usize, _next: usize) -> i64 {
@@ -41,6 +37,6 @@ impl Book for Switch {
     }
 
     fn worth(&self, condition: usize) -> i64 {
-        if condition == 1 { 1 } else { 0 }
+        i64::from(condition == 1)
     }
 }
