@@ -100,11 +100,7 @@ impl<'a> Book for ListBook<'a> {
     }
 
     fn worth(&self, condition: usize) -> i64 {
-        if condition < self.sizes.conditions {
-            self.worths[condition]
-        } else {
-            0
-        }
+        self.worths.get(condition).copied().unwrap_or(0)
     }
 
     fn row(&self, visit: usize, condition: usize, remedy: usize, row: &mut Row) {

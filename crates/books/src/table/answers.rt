@@ -74,11 +74,7 @@ impl<'a> Book for TableBook<'a> {
     }
 
     fn worth(&self, condition: usize) -> i64 {
-        if condition < self.sizes.conditions {
-            self.worths[condition]
-        } else {
-            0
-        }
+        self.worths.get(condition).copied().unwrap_or(0)
     }
 
     fn alike_until(&self, visit: usize) -> usize {
