@@ -56,7 +56,7 @@ impl<'a> ListBook<'a> {
         ensures share { MatchOption result ((list_means self.now).share visit condition remedy next ≡ 0) (λ found. (list_means self.now).share visit condition remedy next ≡ found.now.share) }
         ensures amount { MatchOption result ((list_means self.now).amount visit condition remedy next ≡ pos 0) (λ found. (list_means self.now).amount visit condition remedy next ≡ found.now.amount) }
     {
-        if self.sizes.has(visit, condition, remedy) && next < self.sizes.conditions {
+        if self.sizes.has_outcome(visit, condition, remedy, next) {
             self.listing.look_up(Place {
                 condition,
                 remedy,

@@ -18,8 +18,7 @@ fn record_fits(sizes: Sizes, entry: &Record) -> bool
     entry.condition < sizes.conditions
         && entry.remedy < sizes.remedies
         && entry.next < sizes.conditions
-        && 1 <= entry.share
-        && entry.share <= sizes.parts
+        && (1..=sizes.parts).contains(&entry.share)
         && is_small(entry.amount)
 }
 

@@ -34,7 +34,7 @@ impl<'a> TableBook<'a> {
         ensures outside { IfNone result ((inside self.now.sizes.conditions self.now.sizes.remedies visit condition remedy && nat_lt next self.now.sizes.conditions) ≡ false) }
         ensures inside { IfSome result (λ at. ((inside self.now.sizes.conditions self.now.sizes.remedies visit condition remedy && nat_lt next self.now.sizes.conditions) ≡ true) × (at ≡ spot self.now.sizes.conditions self.now.sizes.remedies condition remedy next) × (at < self.now.sizes.conditions * self.now.sizes.remedies * self.now.sizes.conditions)) }
     {
-        if self.sizes.has(visit, condition, remedy) && next < self.sizes.conditions {
+        if self.sizes.has_outcome(visit, condition, remedy, next) {
             Some(self.first_of(condition, remedy) + next)
         } else {
             None
