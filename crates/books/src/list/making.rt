@@ -52,19 +52,8 @@ fn check(sizes: Sizes, records: &[Record], worths: &[i64]) -> Result<(), MakingR
     if worths.len() != sizes.conditions {
         return Err(MakingRefusal::Size);
     }
-    if let Some(index) = first_unfit(sizes, records) {
-        return Err(MakingRefusal::Entry {
-            table: Table::Outcomes,
-            index,
-        });
-    }
-    if let Some(index) = first_large(worths) {
-        return Err(MakingRefusal::Entry {
-            table: Table::Worths,
-            index,
-        });
-    }
-    Ok(())
+    Table::Outcomes.sound(first_unfit(sizes, records))?;
+    Table::Worths.sound(first_large(worths))
 }
 
 impl<'a> ListBook<'a> {
