@@ -42,7 +42,7 @@ fn is_entered(sizes: Sizes, records: &[Record], index: usize) -> bool
 fn first_unfit(sizes: Sizes, records: &[Record]) -> Option<usize>
     ensures { FirstFailing (Entered sizes.conditions sizes.remedies sizes.parts records.now) (length records.now) result }
 {
-    (0..records.len()).position(|index| !is_entered(sizes, records, index))
+    (0..records.len()).find(|index| !is_entered(sizes, records, *index))
 }
 
 // Whether records and worths make a book of these sizes, or the first reason why not.
