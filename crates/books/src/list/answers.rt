@@ -68,10 +68,10 @@ impl<'a> ListBook<'a> {
     }
 }
 
-impl<'a> Book for ListBook<'a> {
+impl Book for ListBook<'_> {
     ghost model = { list_means };
 
-    ghost lawful = { λ b. list_lawful b.sizes.conditions b.sizes.remedies b.sizes.parts b.listing.records.now b.worths.now b.sizes.fit b.worths_long b.records_valued b.worths_small };
+    ghost lawful = { list_lawful };
 
     fn conditions(&self) -> usize {
         self.sizes.conditions

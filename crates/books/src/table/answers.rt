@@ -9,7 +9,7 @@ use super::TableBook;
 use crate::limits::last_alike;
 use model::Book;
 
-impl<'a> TableBook<'a> {
+impl TableBook<'_> {
     // Where the row of a condition and a remedy starts in the tables.
     fn first_of(&self, condition: usize, remedy: usize) -> usize
         requires { (condition < self.now.sizes.conditions) × (remedy < self.now.sizes.remedies) }
@@ -42,10 +42,10 @@ impl<'a> TableBook<'a> {
     }
 }
 
-impl<'a> Book for TableBook<'a> {
+impl Book for TableBook<'_> {
     ghost model = { table_means };
 
-    ghost lawful = { λ b. table_lawful b.sizes.conditions b.sizes.remedies b.sizes.parts b.shares.now b.amounts.now b.worths.now b.sizes.fit b.shares_long b.amounts_long b.worths_long b.shares_fit b.amounts_small b.worths_small };
+    ghost lawful = { table_lawful };
 
     fn conditions(&self) -> usize {
         self.sizes.conditions
