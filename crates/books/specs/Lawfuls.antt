@@ -1,14 +1,17 @@
 -- Books of lists and of tables keep what is asked of every book.
-use Rattle.std.specs.Prelude.{◌≡◌, ℕ, suc, ◌*◌, ◌<◌, ◌≤◌, Bool, true, false, cond, ◌&&◌, T, List, [], ◌∷◌, length, ℤ, pos, nat_le, nat_lt, refl}
+use Rattle.std.specs.Prelude.{◌≡◌, ℕ, suc, ◌<◌, ◌≤◌, Bool, true, false, cond, ◌&&◌, T, List, [], ◌∷◌, ℤ, pos, nat_le, nat_lt, refl}
 use Rattle.std.proofs.Common.{arith, leb→le, ltb→lt}
 use Rattle.std.proofs.Math.Arith.{digits_lt}
 use Rattle.std.proofs.lemmas.Int.{ints}
 use Rattle.model.specs.Model.{Offers, offers, Money, Inside, Lawful}
 use Rattle.books.specs.declared.record.Record.{Record}
+use Rattle.books.specs.declared.list.ListBook.{ListBook}
+use Rattle.books.specs.declared.table.TableBook.{TableBook}
 use Rattle.books.specs.Alike.{SizesFit, inside, some_above, alike}
-use Rattle.books.specs.Entries.{SmallMoney, AllSmall, SharesFit, AllValued}
-use Rattle.books.specs.Listed.{about, listed, list_model}
-use Rattle.books.specs.Tables.{spot, table_model}
+use Rattle.books.specs.Entries.{SmallMoney, AllValued}
+use Rattle.books.specs.Listed.{about, listed}
+use Rattle.books.specs.Means.{list_means, table_means}
+use Rattle.books.specs.Tables.{spot}
 
 both : (a b : Bool) → T (a && b) → T a × T b
 both true true h = (tt, tt)
@@ -64,12 +67,12 @@ module _ (c r parts : ℕ) (share : ℕ → ℕ → ℕ → ℕ) (amount : ℕ �
     worth_inside = λ s h. ltb→lt s c (taken (nat_lt s c) (worth s) (pos 0) h);
   }
 
-pub table_lawful : (c r parts : ℕ) (shares : List ℕ) (amounts worths : List ℤ) → SizesFit c r parts → length shares ≡ c * r * c → length amounts ≡ c * r * c → length worths ≡ c → SharesFit parts shares → AllSmall amounts → AllSmall worths → Lawful (table_model c r parts shares amounts worths)
-table_lawful c r parts shares amounts worths sizes long_s long_a long_w fit small worth =
-    alike_lawful c r parts _ _ _ sizes
-    (λ s x j a b d. let l = digits_lt (digits_lt a b) d in fit (spot c r s x j) (omega arith))
-    (λ s x j a b d. let l = digits_lt (digits_lt a b) d in small (spot c r s x j) (omega arith))
-    (λ s a. worth s (omega arith))
+pub table_lawful : (b : TableBook) → Lawful (table_means b)
+table_lawful b =
+    alike_lawful b.sizes.conditions b.sizes.remedies b.sizes.parts _ _ _ b.sizes.fit
+    (λ s x j k l m. let q = digits_lt (digits_lt k l) m in b.shares_fit (spot b.sizes.conditions b.sizes.remedies s x j) (omega (arith, b.shares_long)))
+    (λ s x j k l m. let q = digits_lt (digits_lt k l) m in b.amounts_small (spot b.sizes.conditions b.sizes.remedies s x j) (omega (arith, b.amounts_long)))
+    (λ s k. b.worths_small s (omega (arith, b.worths_long)))
 
 listed_fits : (parts : ℕ) (es : List Record) (s x j : ℕ) → AllValued parts es → ((listed es s x j).share ≤ parts) × SmallMoney (listed es s x j).amount
 listed_fits parts [] s x j each = (omega arith, omega arith)
@@ -78,9 +81,9 @@ listed_fits parts (e ∷ es) s x j each =
     let here = each 0 (omega arith) in
     kept (about e s x j) e (listed es s x j) (λ f. (f.share ≤ parts) × SmallMoney f.amount) (λ t. (here.1, here.2)) rest
 
-pub list_lawful : (c r parts : ℕ) (es : List Record) (worths : List ℤ) → SizesFit c r parts → length worths ≡ c → AllValued parts es → AllSmall worths → Lawful (list_model c r parts es worths)
-list_lawful c r parts es worths sizes long fit small =
-    alike_lawful c r parts _ _ _ sizes
-    (λ s x j a b d. (listed_fits parts es s x j fit).0)
-    (λ s x j a b d. (listed_fits parts es s x j fit).1)
-    (λ s a. small s (omega arith))
+pub list_lawful : (b : ListBook) → Lawful (list_means b)
+list_lawful b =
+    alike_lawful b.sizes.conditions b.sizes.remedies b.sizes.parts _ _ _ b.sizes.fit
+    (λ s x j k l m. (listed_fits b.sizes.parts b.listing.records.now s x j b.records_valued).0)
+    (λ s x j k l m. (listed_fits b.sizes.parts b.listing.records.now s x j b.records_valued).1)
+    (λ s k. b.worths_small s (omega (arith, b.worths_long)))

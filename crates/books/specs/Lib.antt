@@ -4,7 +4,7 @@ pub mod Entries
 pub mod Listed
 pub mod Tables
 pub mod Making
-pub mod Lawfuls
 pub mod Means
+pub mod Lawfuls
 pub mod Made
 pub mod Kinds

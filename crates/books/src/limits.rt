@@ -21,5 +21,5 @@ pub(crate) fn first_large(moneys: &[i64]) -> Option<usize>
 pub(crate) fn last_alike(visit: usize) -> usize
     ensures { (result ≡ visit) ⊎ ((1 ≤ visit) × (visit ≤ 48) × (result ≡ 48)) }
 {
-    if 1 <= visit && visit <= 48 { 48 } else { visit }
+    if (1..=48).contains(&visit) { 48 } else { visit }
 }

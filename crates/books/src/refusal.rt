@@ -1,4 +1,5 @@
-ghost use Rattle.std.specs.Prelude.{◌≡◌};
+ghost use Rattle.std.specs.Prelude.{◌≡◌, Ok, Err, MatchOption};
+ghost use Rattle.books.specs.declared.refusal.MakingRefusal.TheVariants.{Entry};
 ghost use Rattle.books.specs.Refusals.{table_number, making_number, making_places};
 
 // The tables that a book is made from; `Outcomes` are the shares, or the records of a list.
@@ -18,6 +19,16 @@ impl Table {
             Table::Outcomes => 1,
             Table::Amounts => 2,
             Table::Worths => 3,
+        }
+    }
+
+    // Refused for the entry at fault, if there is one.
+    pub(crate) fn sound(self, fault: Option<usize>) -> Result<(), MakingRefusal>
+        ensures { MatchOption fault (result ≡ Ok tt) (λ index. result ≡ Err (Entry self index)) }
+    {
+        match fault {
+            Some(index) => Err(MakingRefusal::Entry { table: self, index }),
+            None => Ok(()),
         }
     }
 }

@@ -1,4 +1,4 @@
-ghost use Rattle.std.specs.Prelude.{◌≡◌, MatchOption};
+ghost use Rattle.std.specs.Prelude.{◌≡◌, ◌&&◌, MatchOption, nat_lt};
 ghost use Rattle.books.specs.Alike.{SizesFit, inside};
 
 // The sizes of a book: 1 to 32 conditions, 1 to 8 remedies, and the 1 to 1000 parts of which a share is some.
@@ -15,12 +15,9 @@ impl Sizes {
     pub fn new(conditions: usize, remedies: usize, parts: u32) -> Option<Sizes>
         ensures { MatchOption result (SizesFit conditions remedies parts → ⊥) (λ z. (z.conditions ≡ conditions) × (z.remedies ≡ remedies) × (z.parts ≡ parts)) }
     {
-        if 1 <= conditions
-            && conditions <= 32
-            && 1 <= remedies
-            && remedies <= 8
-            && 1 <= parts
-            && parts <= 1000
+        if (1..=32).contains(&conditions)
+            && (1..=8).contains(&remedies)
+            && (1..=1000).contains(&parts)
         {
             Some(Sizes {
                 conditions,
@@ -36,6 +33,19 @@ impl Sizes {
     pub(crate) fn has(&self, visit: usize, condition: usize, remedy: usize) -> bool
         ensures { result ≡ inside self.now.conditions self.now.remedies visit condition remedy }
     {
-        1 <= visit && visit <= 48 && condition < self.conditions && remedy < self.remedies
+        (1..=48).contains(&visit) && condition < self.conditions && remedy < self.remedies
+    }
+
+    // The same, and the next condition.
+    pub(crate) fn has_outcome(
+        &self,
+        visit: usize,
+        condition: usize,
+        remedy: usize,
+        next: usize,
+    ) -> bool
+        ensures { result ≡ (inside self.now.conditions self.now.remedies visit condition remedy && nat_lt next self.now.conditions) }
+    {
+        self.has(visit, condition, remedy) && next < self.conditions
     }
 }

@@ -5,88 +5,85 @@ use crate::table::TableBook;
 use model::Book;
 use std::process::Abort;
 
-// Number, table and index of a refusal, or 0s.
-fn told(answer: Result<(), MakingRefusal>) -> (u32, usize, usize) {
-    match answer {
-        Ok(()) => (0, 0, 0),
-        Err(refusal) => {
-            let (table, index, _) = refusal.places();
-            (refusal.number(), table, index)
-        }
-    }
+// Made, or the number, the table and the index of the refusal.
+type Told = Result<(), (u32, usize, usize)>;
+
+fn as_told(answer: Result<(), MakingRefusal>) -> Told {
+    answer.map_err(|refusal| {
+        let (table, index, _) = refusal.places();
+        (refusal.number(), table, index)
+    })
 }
 
-fn list_told<'x>(
+fn list_told(
     conditions: usize,
     remedies: usize,
     parts: u32,
-    records: &'x [Record],
-    worths: &'x [i64],
-) -> (u32, usize, usize) {
+    records: &[Record],
+    worths: &[i64],
+) -> Told {
     let mut book = ListBook::blank();
-    told(book.remake(conditions, remedies, parts, records, worths))
+    as_told(book.remake(conditions, remedies, parts, records, worths))
 }
 
-fn table_told<'x>(shares: &'x [u32], amounts: &'x [i64], worths: &'x [i64]) -> (u32, usize, usize) {
+fn table_told(shares: &[u32], amounts: &[i64], worths: &[i64]) -> Told {
     let mut book = TableBook::blank();
-    told(book.remake(2, 2, 10, shares, amounts, worths))
+    as_told(book.remake(2, 2, 10, shares, amounts, worths))
 }
 
-// Conditions, remedies, parts, how many worths are lent, and the number told.
-const SIZES: [(usize, usize, u32, usize, u32); 11] = [
-    (1, 1, 1, 1, 0),
-    (32, 8, 1000, 32, 0),
-    (0, 1, 1, 0, 12),
-    (33, 8, 1000, 33, 12),
-    (32, 0, 1000, 32, 12),
-    (32, 9, 1000, 32, 12),
-    (32, 8, 0, 32, 12),
-    (32, 8, 1001, 32, 12),
-    (32, 8, 1000, 31, 12),
-    (31, 8, 1000, 32, 12),
-    (usize::MAX, usize::MAX, u32::MAX, 33, 12),
+// Conditions, remedies, parts, how many worths are lent, and what is told.
+const SIZES: [(usize, usize, u32, usize, Told); 11] = [
+    (1, 1, 1, 1, Ok(())),
+    (32, 8, 1000, 32, Ok(())),
+    (0, 1, 1, 0, Err((12, 0, 0))),
+    (33, 8, 1000, 33, Err((12, 0, 0))),
+    (32, 0, 1000, 32, Err((12, 0, 0))),
+    (32, 9, 1000, 32, Err((12, 0, 0))),
+    (32, 8, 0, 32, Err((12, 0, 0))),
+    (32, 8, 1001, 32, Err((12, 0, 0))),
+    (32, 8, 1000, 31, Err((12, 0, 0))),
+    (31, 8, 1000, 32, Err((12, 0, 0))),
+    (usize::MAX, usize::MAX, u32::MAX, 33, Err((12, 0, 0))),
 ];
 
 #[test]
 fn list_sizes(rt: HostRuntime) {
     let worths = [0; 33];
-    for (conditions, remedies, parts, length, number) in SIZES {
+    for (conditions, remedies, parts, length, told) in SIZES {
         assert!(rt; length <= 33);
         assert_eq!(rt;
             list_told(conditions, remedies, parts, &[], &worths[..length]),
-            (number, 0, 0)
+            told
         );
     }
 }
 
-// A second record and a second worth, and the table and the index told: condition, remedy, next, share,
-// amount, worth, table, index.
-const ENTRIES: [(usize, usize, usize, u32, i64, i64, usize, usize); 19] = [
-    (0, 1, 1, 10, 1_000_000, 1_000_000, 0, 0),
-    (1, 0, 0, 1, -1_000_000, -1_000_000, 0, 0),
-    (0, 1, 1, 10, 1_000_001, 0, 1, 1),
-    (0, 1, 1, 10, -1_000_001, 0, 1, 1),
-    (0, 1, 1, 10, i64::MIN, 0, 1, 1),
-    (0, 1, 0, 10, 0, 0, 1, 1),
-    (0, 0, 1, 10, 0, 0, 1, 1),
-    (0, 1, 1, 0, 0, 0, 1, 1),
-    (0, 1, 1, 11, 0, 0, 1, 1),
-    (0, 1, 1, u32::MAX, 0, 0, 1, 1),
-    (2, 0, 0, 10, 0, 0, 1, 1),
-    (1, 2, 0, 10, 0, 0, 1, 1),
-    (1, 1, 2, 10, 0, 0, 1, 1),
-    (usize::MAX, 1, 1, 10, 0, 0, 1, 1),
-    (1, 1, usize::MAX, 10, 0, 0, 1, 1),
-    (0, 1, 1, 10, 0, 1_000_001, 3, 1),
-    (0, 1, 1, 10, 0, -1_000_001, 3, 1),
-    (0, 1, 1, 10, 0, i64::MIN, 3, 1),
-    (0, 1, 1, 11, 0, 1_000_001, 1, 1),
+// A second record and a second worth: condition, remedy, next, share, amount, worth, and what is told.
+const ENTRIES: [(usize, usize, usize, u32, i64, i64, Told); 19] = [
+    (0, 1, 1, 10, 1_000_000, 1_000_000, Ok(())),
+    (1, 0, 0, 1, -1_000_000, -1_000_000, Ok(())),
+    (0, 1, 1, 10, 1_000_001, 0, Err((13, 1, 1))),
+    (0, 1, 1, 10, -1_000_001, 0, Err((13, 1, 1))),
+    (0, 1, 1, 10, i64::MIN, 0, Err((13, 1, 1))),
+    (0, 1, 0, 10, 0, 0, Err((13, 1, 1))),
+    (0, 0, 1, 10, 0, 0, Err((13, 1, 1))),
+    (0, 1, 1, 0, 0, 0, Err((13, 1, 1))),
+    (0, 1, 1, 11, 0, 0, Err((13, 1, 1))),
+    (0, 1, 1, u32::MAX, 0, 0, Err((13, 1, 1))),
+    (2, 0, 0, 10, 0, 0, Err((13, 1, 1))),
+    (1, 2, 0, 10, 0, 0, Err((13, 1, 1))),
+    (1, 1, 2, 10, 0, 0, Err((13, 1, 1))),
+    (usize::MAX, 1, 1, 10, 0, 0, Err((13, 1, 1))),
+    (1, 1, usize::MAX, 10, 0, 0, Err((13, 1, 1))),
+    (0, 1, 1, 10, 0, 1_000_001, Err((13, 3, 1))),
+    (0, 1, 1, 10, 0, -1_000_001, Err((13, 3, 1))),
+    (0, 1, 1, 10, 0, i64::MIN, Err((13, 3, 1))),
+    (0, 1, 1, 11, 0, 1_000_001, Err((13, 1, 1))),
 ];
 
 #[test]
 fn list_entries(rt: HostRuntime) {
-    for (condition, remedy, next, share, amount, worth, table, index) in ENTRIES {
-        let number = if table == 0 { 0 } else { 13 };
+    for (condition, remedy, next, share, amount, worth, told) in ENTRIES {
         let first = Record {
             condition: 0,
             remedy: 1,
@@ -103,41 +100,35 @@ fn list_entries(rt: HostRuntime) {
         };
         let records = [first, second];
         let worths = [0, worth];
-        assert_eq!(rt;
-            list_told(2, 2, 10, &records, &worths),
-            (number, table, index)
-        );
+        assert_eq!(rt; list_told(2, 2, 10, &records, &worths), told);
     }
 }
 
-// How many shares, amounts and worths are lent, one of each, then number, table and index.
-const TABLES: [(usize, usize, usize, u32, i64, i64, u32, usize, usize); 13] = [
-    (8, 8, 2, 10, 1_000_000, -1_000_000, 0, 0, 0),
-    (7, 8, 2, 10, 0, 0, 12, 0, 0),
-    (9, 8, 2, 10, 0, 0, 12, 0, 0),
-    (8, 7, 2, 10, 0, 0, 12, 0, 0),
-    (8, 9, 2, 10, 0, 0, 12, 0, 0),
-    (8, 8, 1, 10, 0, 0, 12, 0, 0),
-    (8, 8, 3, 10, 0, 0, 12, 0, 0),
-    (8, 8, 2, 11, 0, 0, 13, 1, 5),
-    (8, 8, 2, 10, 1_000_001, 0, 13, 2, 6),
-    (8, 8, 2, 10, i64::MIN, 0, 13, 2, 6),
-    (8, 8, 2, 10, 0, -1_000_001, 13, 3, 1),
-    (8, 8, 2, 11, 1_000_001, 1_000_001, 13, 1, 5),
-    (8, 8, 2, 10, 1_000_001, 1_000_001, 13, 2, 6),
+// How many shares, amounts and worths are lent, one of each, and what is told.
+const TABLES: [(usize, usize, usize, u32, i64, i64, Told); 13] = [
+    (8, 8, 2, 10, 1_000_000, -1_000_000, Ok(())),
+    (7, 8, 2, 10, 0, 0, Err((12, 0, 0))),
+    (9, 8, 2, 10, 0, 0, Err((12, 0, 0))),
+    (8, 7, 2, 10, 0, 0, Err((12, 0, 0))),
+    (8, 9, 2, 10, 0, 0, Err((12, 0, 0))),
+    (8, 8, 1, 10, 0, 0, Err((12, 0, 0))),
+    (8, 8, 3, 10, 0, 0, Err((12, 0, 0))),
+    (8, 8, 2, 11, 0, 0, Err((13, 1, 5))),
+    (8, 8, 2, 10, 1_000_001, 0, Err((13, 2, 6))),
+    (8, 8, 2, 10, i64::MIN, 0, Err((13, 2, 6))),
+    (8, 8, 2, 10, 0, -1_000_001, Err((13, 3, 1))),
+    (8, 8, 2, 11, 1_000_001, 1_000_001, Err((13, 1, 5))),
+    (8, 8, 2, 10, 1_000_001, 1_000_001, Err((13, 2, 6))),
 ];
 
 #[test]
 fn tables(rt: HostRuntime) {
-    for (a, b, w, share, amount, worth, number, table, index) in TABLES {
+    for (a, b, w, share, amount, worth, told) in TABLES {
         assert!(rt; a <= 9 && b <= 9 && w <= 3);
         let shares = [0, 10, 0, 0, 0, share, 0, 0, 0];
         let amounts = [0, 7, 0, 0, 0, -5, amount, 0, 0];
         let worths = [20, worth, 0];
-        assert_eq!(rt;
-            table_told(&shares[..a], &amounts[..b], &worths[..w]),
-            (number, table, index)
-        );
+        assert_eq!(rt; table_told(&shares[..a], &amounts[..b], &worths[..w]), told);
     }
 }
 

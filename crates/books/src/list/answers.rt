@@ -56,7 +56,7 @@ impl<'a> ListBook<'a> {
         ensures share { MatchOption result ((list_means self.now).share visit condition remedy next ≡ 0) (λ found. (list_means self.now).share visit condition remedy next ≡ found.now.share) }
         ensures amount { MatchOption result ((list_means self.now).amount visit condition remedy next ≡ pos 0) (λ found. (list_means self.now).amount visit condition remedy next ≡ found.now.amount) }
     {
-        if self.sizes.has(visit, condition, remedy) && next < self.sizes.conditions {
+        if self.sizes.has_outcome(visit, condition, remedy, next) {
             self.listing.look_up(Place {
                 condition,
                 remedy,
@@ -68,10 +68,10 @@ impl<'a> ListBook<'a> {
     }
 }
 
-impl<'a> Book for ListBook<'a> {
+impl Book for ListBook<'_> {
     ghost model = { list_means };
 
-    ghost lawful = { λ b. list_lawful b.sizes.conditions b.sizes.remedies b.sizes.parts b.listing.records.now b.worths.now b.sizes.fit b.worths_long b.records_valued b.worths_small };
+    ghost lawful = { list_lawful };
 
     fn conditions(&self) -> usize {
         self.sizes.conditions
@@ -100,11 +100,7 @@ impl<'a> Book for ListBook<'a> {
     }
 
     fn worth(&self, condition: usize) -> i64 {
-        if condition < self.sizes.conditions {
-            self.worths[condition]
-        } else {
-            0
-        }
+        self.worths.get(condition).copied().unwrap_or(0)
     }
 
     fn row(&self, visit: usize, condition: usize, remedy: usize, row: &mut Row) {

@@ -28,11 +28,8 @@ impl<'a> Listing<'a> {
         requires { (place.remedy < 8) × (place.next < 32) }
         ensures { MatchOption result (listed self.now.records.now place.condition place.remedy place.next ≡ no_record) (λ found. listed self.now.records.now place.condition place.remedy place.next ≡ found.now) }
     {
-        let at = self.before(place);
-        match self.records.get(at) {
-            Some(found) if found.place() == place => Some(found),
-            _ => None,
-        }
+        let found = self.records.get(self.before(place));
+        found.filter(|found| found.place() == place)
     }
 
     // How many of the records stand before a row: a condition and a remedy, in order 8 × condition + remedy.

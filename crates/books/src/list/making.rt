@@ -18,8 +18,7 @@ fn record_fits(sizes: Sizes, entry: &Record) -> bool
     entry.condition < sizes.conditions
         && entry.remedy < sizes.remedies
         && entry.next < sizes.conditions
-        && 1 <= entry.share
-        && entry.share <= sizes.parts
+        && (1..=sizes.parts).contains(&entry.share)
         && is_small(entry.amount)
 }
 
@@ -43,7 +42,7 @@ fn is_entered(sizes: Sizes, records: &[Record], index: usize) -> bool
 fn first_unfit(sizes: Sizes, records: &[Record]) -> Option<usize>
     ensures { FirstFailing (Entered sizes.conditions sizes.remedies sizes.parts records.now) (length records.now) result }
 {
-    (0..records.len()).position(|index| !is_entered(sizes, records, index))
+    (0..records.len()).find(|index| !is_entered(sizes, records, *index))
 }
 
 // Whether records and worths make a book of these sizes, or the first reason why not.
@@ -53,19 +52,8 @@ fn check(sizes: Sizes, records: &[Record], worths: &[i64]) -> Result<(), MakingR
     if worths.len() != sizes.conditions {
         return Err(MakingRefusal::Size);
     }
-    if let Some(index) = first_unfit(sizes, records) {
-        return Err(MakingRefusal::Entry {
-            table: Table::Outcomes,
-            index,
-        });
-    }
-    if let Some(index) = first_large(worths) {
-        return Err(MakingRefusal::Entry {
-            table: Table::Worths,
-            index,
-        });
-    }
-    Ok(())
+    Table::Outcomes.sound(first_unfit(sizes, records))?;
+    Table::Worths.sound(first_large(worths))
 }
 
 impl<'a> ListBook<'a> {

@@ -9,7 +9,7 @@ use super::TableBook;
 use crate::limits::last_alike;
 use model::Book;
 
-impl<'a> TableBook<'a> {
+impl TableBook<'_> {
     // Where the row of a condition and a remedy starts in the tables.
     fn first_of(&self, condition: usize, remedy: usize) -> usize
         requires { (condition < self.now.sizes.conditions) × (remedy < self.now.sizes.remedies) }
@@ -34,7 +34,7 @@ impl<'a> TableBook<'a> {
         ensures outside { IfNone result ((inside self.now.sizes.conditions self.now.sizes.remedies visit condition remedy && nat_lt next self.now.sizes.conditions) ≡ false) }
         ensures inside { IfSome result (λ at. ((inside self.now.sizes.conditions self.now.sizes.remedies visit condition remedy && nat_lt next self.now.sizes.conditions) ≡ true) × (at ≡ spot self.now.sizes.conditions self.now.sizes.remedies condition remedy next) × (at < self.now.sizes.conditions * self.now.sizes.remedies * self.now.sizes.conditions)) }
     {
-        if self.sizes.has(visit, condition, remedy) && next < self.sizes.conditions {
+        if self.sizes.has_outcome(visit, condition, remedy, next) {
             Some(self.first_of(condition, remedy) + next)
         } else {
             None
@@ -42,10 +42,10 @@ impl<'a> TableBook<'a> {
     }
 }
 
-impl<'a> Book for TableBook<'a> {
+impl Book for TableBook<'_> {
     ghost model = { table_means };
 
-    ghost lawful = { λ b. table_lawful b.sizes.conditions b.sizes.remedies b.sizes.parts b.shares.now b.amounts.now b.worths.now b.sizes.fit b.shares_long b.amounts_long b.worths_long b.shares_fit b.amounts_small b.worths_small };
+    ghost lawful = { table_lawful };
 
     fn conditions(&self) -> usize {
         self.sizes.conditions
@@ -74,11 +74,7 @@ impl<'a> Book for TableBook<'a> {
     }
 
     fn worth(&self, condition: usize) -> i64 {
-        if condition < self.sizes.conditions {
-            self.worths[condition]
-        } else {
-            0
-        }
+        self.worths.get(condition).copied().unwrap_or(0)
     }
 
     fn alike_until(&self, visit: usize) -> usize {

@@ -30,25 +30,9 @@ fn check(sizes: Sizes, shares: &[u32], amounts: &[i64], worths: &[i64]) -> Resul
     if !is_shaped(sizes, shares, amounts, worths) {
         return Err(MakingRefusal::Size);
     }
-    if let Some(index) = first_over(sizes.parts, shares) {
-        return Err(MakingRefusal::Entry {
-            table: Table::Outcomes,
-            index,
-        });
-    }
-    if let Some(index) = first_large(amounts) {
-        return Err(MakingRefusal::Entry {
-            table: Table::Amounts,
-            index,
-        });
-    }
-    if let Some(index) = first_large(worths) {
-        return Err(MakingRefusal::Entry {
-            table: Table::Worths,
-            index,
-        });
-    }
-    Ok(())
+    Table::Outcomes.sound(first_over(sizes.parts, shares))?;
+    Table::Amounts.sound(first_large(amounts))?;
+    Table::Worths.sound(first_large(worths))
 }
 
 impl<'a> TableBook<'a> {

@@ -1,41 +1,35 @@
-use Rattle.std.proofs.Common.{◌≡◌, ℕ, true, false, ◌&&◌, eqb, refl, sym, ap, ◌∙◌, arith}
+use Rattle.std.proofs.Common.{◌≡◌, ℕ, ◌<◌, ◌≤◌, Bool, true, false, ◌&&◌, eqb, List, length, get_or, Option, Some, None, MatchOption, refl, sym, ap, ◌∙◌, subst, arith, rules}
+use borrow.Author.Tests.{tests}
+use denote.Ref.{Bor}
+use Rattle.std.specs.List.{HoldsAt}
+use Rattle.std.specs.Bool.{then_some}
 use Rattle.std.proofs.lemmas.Bool.{and_parts, and_from, eqb-true, eq-eqb}
 use Rattle.books.specs.declared.record.Record.{Record}
-use Rattle.books.specs.Entries.{no_record}
+use Rattle.books.specs.Entries.{no_record, StandBefore, rank, KeysRise}
+use Rattle.books.specs.Listed.{listed}
 use Rattle.books.proofs.Lookups.{listed_hit, listed_miss}
 use Rattle.books.proofs.list.listing.Listing.look_up.Goals as goal
-use Rattle.books.proofs.list.listing.Listing.look_up.Goals.{in_default-via-in-Some+else-eq, in_default-via-in_default}
 
-place_parts : (s x j s' x' j' : ℕ) → eqb s s' && (eqb x x' && eqb j j') ≡ true → (s ≡ s') × (x ≡ x') × (j ≡ j')
-place_parts s x j s' x' j' h =
-    let p = and_parts _ _ h in
-    let q = and_parts _ _ p.1 in
-    (eqb-true _ _ p.0, eqb-true _ _ q.0, eqb-true _ _ q.1)
+module _ (es : List Record) (m s x j : ℕ) (up : KeysRise es) (stand : StandBefore es (rank s x j) m) where
+  abbrev Found : Option (Bor Record) → Type 0
+  Found r = MatchOption r (listed es s x j ≡ no_record) (λ found. listed es s x j ≡ found.now)
 
-place_from : (s x j s' x' j' : ℕ) → s ≡ s' → x ≡ x' → j ≡ j' → eqb s s' && (eqb x x' && eqb j j') ≡ true
-place_from s x j s' x' j' a b d = and_from _ _ (eq-eqb _ _ a) (and_from _ _ (eq-eqb _ _ b) (eq-eqb _ _ d))
+  -- the record there, if it is of the place
+  tested : (e : Bor Record) (b : Bool) → m < length es → e.now ≡ get_or es m no_record → b ≡ (eqb e.now.condition s && (eqb e.now.remedy x && eqb e.now.next j)) → Found (then_some b e)
+  tested e true l is so =
+      let p = and_parts _ _ (sym so) in
+      let q = and_parts _ _ p.1 in
+      listed_hit es s x j m up l (ap (λ (d : Record). d.condition) (sym is) ∙ eqb-true _ _ p.0) (ap (λ (d : Record). d.remedy) (sym is) ∙ eqb-true _ _ q.0) (ap (λ (d : Record). d.next) (sym is) ∙ eqb-true _ _ q.1) ∙ sym is
+  tested e false l is so = listed_miss es m _ up stand s x j refl (λ k p.
+      let both : false ≡ true = so ∙ and_from _ _ (eq-eqb _ _ (ap (λ (d : Record). d.condition) is ∙ p.0)) (and_from _ _ (eq-eqb _ _ (ap (λ (d : Record). d.remedy) is ∙ p.1)) (eq-eqb _ _ (ap (λ (d : Record). d.next) is ∙ p.2))) in cc)
 
-pub returns-in-Some : goal.returns-in-Some
-returns-in-Some c =
+  -- what is kept of the record there, if there is one
+  kept : (o r : Option (Bor Record)) (Told : Bor Record → Bool → Type 0) → MatchOption o (length es ≤ m) (λ e. (m < length es) × HoldsAt (λ y. e.now ≡ y) es m) → MatchOption o (r ≡ None) (λ e. (b : Bool) × Told e b × (r ≡ then_some b e)) → ((e : Bor Record) (b : Bool) → Told e b → b ≡ (eqb e.now.condition s && (eqb e.now.remedy x && eqb e.now.next j))) → Found r
+  kept None r Told past none told = subst Found (sym none) (listed_miss es m _ up stand s x j refl (λ l p. absurd (omega (arith, past))))
+  kept (Some e) r Told there (b, called, is) told = subst Found (sym is) (tested e b there.0 (there.1 no_record) (told e b called))
+
+pub returns : goal.returns
+returns c =
     let es = c.args.self.now.records.now in
     let place = c.args.place in
-    let found = c.in-Some.ensures.lookup.3 in
-    let same = found.1 no_record in
-    let tested = sym c.eq.ensures ∙ c.if-eq.true in
-    let (a, b, d) = place_parts _ _ _ _ _ _ tested in
-    let told = c.place.ensures in
-    listed_hit es place.condition place.remedy place.next c.before-at.result c.args.self.now.rise found.0 (ap (λ (e : Record). e.condition) (sym same) ∙ sym told.condition ∙ a) (ap (λ (e : Record). e.remedy) (sym same) ∙ sym told.remedy ∙ b) (ap (λ (e : Record). e.next) (sym same) ∙ sym told.next ∙ d) ∙ sym same
-
-pub returns-in_default : goal.returns-in_default
-returns-in_default c =
-    let es = c.args.self.now.records.now in
-    let place = c.args.place in
-    elim c.in_default.branch [
-      | in_default-via-in-Some+else-eq w ↦ listed_miss es _ _ c.args.self.now.rise c.before-at.ensures place.condition place.remedy place.next refl (λ l p.
-          let same = w.in-Some.ensures.lookup.3.1 no_record in
-          let told = w.place.ensures in
-          let equal = place_from _ _ _ _ _ _ (told.condition ∙ ap (λ (e : Record). e.condition) same ∙ p.0) (told.remedy ∙ ap (λ (e : Record). e.remedy) same ∙ p.1) (told.next ∙ ap (λ (e : Record). e.next) same ∙ p.2) in
-          let other = sym w.eq.ensures ∙ w.if-eq.false in
-          let both : true ≡ false = sym equal ∙ other in cc)
-      | in_default-via-in_default w ↦ listed_miss es _ _ c.args.self.now.rise c.before-at.ensures place.condition place.remedy place.next refl (λ l p. absurd (omega (arith, w.in_default.ensures.lookup.3)))
-    ]
+    kept es c.before-2.result place.condition place.remedy place.next c.args.self.now.rise c.before-2.ensures c.get-found.result c.filter.result _ c.get-found.ensures.lookup.3 c.filter.ensures (λ e b q. search (rules, tests))
