@@ -1,15 +1,14 @@
 -- Reading comes on by one line, as the reader of the code does.
-use Rattle.std.proofs.Common.{◌≡◌, ℕ, suc, ◌+◌, List, [], ◌∷◌, ◌++◌, length, ℤ, Ok, Err, sym, refl, ap, ◌∙◌, subst, arith, length-append}
+use Rattle.std.proofs.Common.{◌≡◌, ℕ, suc, ◌+◌, List, [], ◌∷◌, ◌++◌, length, ℤ, Ok, sym, refl, ap, ◌∙◌, subst, arith, length-append}
 use Rattle.books.specs.declared.sizes.Sizes.{Sizes}
-use Rattle.fields.specs.declared.faults.LineFault.{LineFault}
 use Rattle.fields.specs.Numerals.{Bytes}
 use Rattle.fields.specs.Checking.{Checked, reported, and_then, check_line}
 use Rattle.fields.specs.Checking.Checked.{good, faulty}
-use Rattle.fields.specs.Views.{reported_line, LineCut, NoLine}
+use Rattle.fields.specs.Views.{LineCut}
 use Rattle.bookfile.specs.declared.entries.Entry.{Entry}
 use Rattle.bookfile.specs.declared.entries.Entry.TheVariants.{Outcome, Worth, End}
 use Rattle.bookfile.specs.declared.faults.FileFault.{FileFault}
-use Rattle.bookfile.specs.declared.faults.FileFault.TheVariants.{Line, Surplus}
+use Rattle.bookfile.specs.declared.faults.FileFault.TheVariants.{Surplus}
 use Rattle.bookfile.specs.declared.progress.Progress.{Progress}
 use Rattle.bookfile.specs.declared.progress.Room.{Room}
 use Rattle.bookfile.specs.Faults.{reported_file}
@@ -19,17 +18,11 @@ use Rattle.bookfile.specs.Reading.{enter_line, read_on, reading}
 use Rattle.bookfile.specs.Entered.{size_values, entry_values, SizesRead, EntryRead}
 use Rattle.bookfile.specs.Entries.{least_after}
 use Rattle.bookfile.specs.Advance.{so_far, line_of, EntryEntered, EntryStopped, ComeTo, ComeToEnd, CameTo, Declined, records_with, worths_with, state_with, Comes}
-use Rattle.bookfile.proofs.Unfolding.{read_cut, read_uncut_first, read_uncut, first_checked, first_failed, later_checked, later_failed}
+use Rattle.bookfile.proofs.Unfolding.{read_cut, first_checked, later_checked}
 use Rattle.bookfile.proofs.Exactness.{surplus}
 
 module _ (room : Room) (bs : Bytes) where
-  -- the first line: not ended, faulty, read
-  pub first_missing : (e : LineFault) → NoLine 1 bs e → Declined room bs (Line e)
-  first_missing e h = read_uncut_first room.records room.worths 1 bs e h ∙ ap (λ x. faulty (reported_line x)) (sym h.fault)
-
-  pub first_faulty : (n : ℕ) (t left : Bytes) (e : LineFault) → LineCut 1 bs n t left → SizesRead n t (Err e) → Declined room bs (Line e)
-  first_faulty n t left e c h = read_cut room.records room.worths begin 1 n bs t left c ∙ first_failed room.records room.worths 1 t left (reported_line e) (subst (λ x. check_line x (may_stand begin) (form begin) t ≡ faulty (reported_line e)) c.numbered h)
-
+  -- the first line is read
   pub first_read : (n : ℕ) (t left : Bytes) (z : Sizes) (p : Progress) → LineCut 1 bs n t left → SizesRead n t (Ok z) → p.room ≡ room → p.sizes ≡ z → least_after p.last ≡ 0 → p.count ≡ 0 → p.worths ≡ 0 → ComeTo room bs p left
   first_read n t left z p c h at same_sizes least count worths =
       let two : 2 ≡ line_of p = omega arith in
@@ -45,19 +38,13 @@ module _ (room : Room) (bs : Bytes) where
     abbrev so : WrittenBook
     so = so_far p.sizes come.records come.worths
 
-    -- a later line: not ended, faulty, not entered, entered
-    pub line_missing : (e : LineFault) → NoLine (line_of p) rest e → Declined room bs (Line e)
-    line_missing e h = come.same ∙ (read_uncut room.records room.worths so (line_of p) rest e h ∙ ap (λ x. faulty (reported_line x)) (sym h.fault))
-
+    -- a later line: not entered, entered
     checks : (k : ℕ) (t : Bytes) (a : Checked (ℕ × List ℤ)) → k ≡ line_of p → check_line k (next_letters p.sizes.conditions p.worths) (next_form p.sizes.conditions p.sizes.remedies p.sizes.parts) t ≡ a → check_line (line_of p) (may_stand (middle so)) (form (middle so)) t ≡ a
     checks k t a q h = subst (λ x. check_line (line_of p) (next_letters p.sizes.conditions x) (next_form p.sizes.conditions p.sizes.remedies p.sizes.parts) t ≡ a) come.tells.worths_is (subst (λ x. check_line x (next_letters p.sizes.conditions p.worths) (next_form p.sizes.conditions p.sizes.remedies p.sizes.parts) t ≡ a) q h)
 
     module _ (k n : ℕ) (t left : Bytes) (at : k ≡ line_of p) (here : LineCut k rest n t left) where
       cut : LineCut (line_of p) rest n t left
       cut = subst (λ x. LineCut x rest n t left) at here
-
-      pub line_faulty : (e : LineFault) → EntryRead p.sizes p.worths n t (Err e) → Declined room bs (Line e)
-      line_faulty e h = come.same ∙ (read_cut room.records room.worths (middle so) (line_of p) n rest t left cut ∙ later_failed room.records room.worths so (line_of p) t left (reported_line e) (checks n t (faulty (reported_line e)) cut.numbered h))
 
       goes : (y : Entry) (a : Checked State) → EntryRead p.sizes p.worths n t (Ok y) → enter_line p.room.records p.room.worths (middle so) (line_of p) (entry_values y) ≡ a → reading room.records room.worths bs ≡ and_then a (λ s. read_on room.records room.worths s (suc (line_of p)) left)
       goes y a h e =

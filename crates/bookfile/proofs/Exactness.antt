@@ -1,6 +1,6 @@
 -- Reading answers exactly what the format's own terms say.
-use Rattle.std.proofs.Common.{◌≡◌, ℕ, suc, ◌+◌, Bool, true, false, eqb, ltb, ◌⊎◌, List, [], ◌∷◌, length, get_or, ℤ, pos, sym, refl, ap, ◌∙◌, subst, inl, inr, ⊎_elim, arith}
-use Rattle.std.proofs.lemmas.Bool.{le-ltb, cond_both, cond-true, cond-false, cases_eq}
+use Rattle.std.proofs.Common.{◌≡◌, ℕ, suc, ◌+◌, eqb, ltb, ◌⊎◌, List, [], ◌∷◌, length, get_or, ℤ, pos, sym, refl, ap, ◌∙◌, subst, inl, inr, ⊎_elim, arith}
+use Rattle.std.proofs.lemmas.Bool.{le-ltb, cond_both, cond-true, cond-false, cases_eq, false_from_ne_true}
 use Rattle.fields.specs.Numerals.{Bytes}
 use Rattle.fields.specs.Lines.{joined, split, Starts}
 use Rattle.fields.specs.Kinds.{Misread}
@@ -21,10 +21,6 @@ use Rattle.bookfile.proofs.Rereading.{read_on_line, read_opened, read_rendered, 
 use Rattle.bookfile.proofs.Rewriting.{came_lines, read_then_written}
 use Rattle.bookfile.proofs.Turns.{turn_record, record_turn, turn_worth, worth_turn}
 use Rattle.bookfile.proofs.Stopping.{lines_stop}
-
-not_so : (t : Bool) → ¬ (t ≡ true) → t ≡ false
-not_so true h = absurd (h refl)
-not_so false h = refl
 
 module _ (m w : ℕ) where
   -- a line that is misread
@@ -52,8 +48,8 @@ module _ (m w : ℕ) where
       ap (read_on m w (middle b) k) s.whole ∙ (read_on_line m w (middle b) k l s.more d ∙ (ap (λ y. and_then (and_then y (enter_line m w (middle b) k)) (λ t. read_on m w t (suc k) s.more)) p.1 ∙ ap (λ y. and_then y (λ t. read_on m w t (suc k) s.more)) (h p.0 p.2)))
 
   late : (b : WrittenBook) (k x : ℕ) (fs : List Bytes) → ¬ InTurn b x fs → (x ≡ 82) ⊎ (x ≡ 82 → ⊥) → (x ≡ 67) ⊎ (x ≡ 67 → ⊥) → (zs : List ℤ) → fs ≡ spelled (form (middle b) x) 0 zs → enter_line m w (middle b) k (x, zs) ≡ faulty (reported 24 k 0)
-  late b k x fs n (inl e) v zs = subst (λ y. ¬ InTurn b y fs → fs ≡ spelled (form (middle b) y) 0 zs → enter_line m w (middle b) k (y, zs) ≡ faulty (reported 24 k 0)) (sym e) (λ n' q. cond-false (rises_after b.records (record_from zs)) _ _ (not_so (rises_after b.records (record_from zs)) (λ up. n' (record_turn b fs (record_from zs) q up)))) n
-  late b k x fs n (inr a) (inl e) zs = subst (λ y. ¬ InTurn b y fs → fs ≡ spelled (form (middle b) y) 0 zs → enter_line m w (middle b) k (y, zs) ≡ faulty (reported 24 k 0)) (sym e) (λ n' q. cond-false (eqb (size_at zs 0) (length b.worths)) _ _ (not_so (eqb (size_at zs 0) (length b.worths)) (λ due. n' (worth_turn b fs (size_at zs 0) (get_or zs 1 (pos 0)) q due)))) n
+  late b k x fs n (inl e) v zs = subst (λ y. ¬ InTurn b y fs → fs ≡ spelled (form (middle b) y) 0 zs → enter_line m w (middle b) k (y, zs) ≡ faulty (reported 24 k 0)) (sym e) (λ n' q. cond-false (rises_after b.records (record_from zs)) _ _ (false_from_ne_true (rises_after b.records (record_from zs)) (λ up. n' (record_turn b fs (record_from zs) q up)))) n
+  late b k x fs n (inr a) (inl e) zs = subst (λ y. ¬ InTurn b y fs → fs ≡ spelled (form (middle b) y) 0 zs → enter_line m w (middle b) k (y, zs) ≡ faulty (reported 24 k 0)) (sym e) (λ n' q. cond-false (eqb (size_at zs 0) (length b.worths)) _ _ (false_from_ne_true (eqb (size_at zs 0) (length b.worths)) (λ due. n' (worth_turn b fs (size_at zs 0) (get_or zs 1 (pos 0)) q due)))) n
   late b k x fs n (inr a) (inr c) zs = λ q. absurd (n ((λ e. absurd (a e)), (λ e. absurd (c e))))
 
   filled_up : (b : WrittenBook) (k x : ℕ) (fs : List Bytes) → InTurn b x fs → Full m w b x → (zs : List ℤ) → fs ≡ spelled (form (middle b) x) 0 zs → enter_line m w (middle b) k (x, zs) ≡ faulty (reported 25 k 0)

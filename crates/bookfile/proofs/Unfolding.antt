@@ -1,16 +1,15 @@
 -- Reading unfolds by one line, as the code reads one.
-use Rattle.std.proofs.Common.{◌≡◌, ℕ, suc, ◌<◌, ◌≤◌, Bool, true, false, ltb, ◌⊎◌, List, [], ◌∷◌, ◌++◌, length, get_or, ℤ, Ok, Err, Result, sym, refl, ap, ◌∙◌, subst, inl, inr, ⊎_elim, arith, length-append, MatchResult}
+use Rattle.std.proofs.Common.{◌≡◌, ℕ, suc, ◌<◌, ◌≤◌, ltb, ◌⊎◌, List, [], ◌∷◌, ◌++◌, length, get_or, ℤ, Ok, Err, Result, sym, refl, ap, ◌∙◌, subst, inl, inr, ⊎_elim, arith, length-append, MatchResult}
 use lib.ListN.{get_or-append}
 use lib.Seq.{get_or_at}
-use Rattle.std.proofs.lemmas.Bool.{lt-ltb, le-ltb, cond-true, cond-false, cases_lt}
+use Rattle.std.proofs.lemmas.Bool.{lt-ltb, le-ltb, cond-true, cond-false, cases_lt, false_from_ne_true}
 use Rattle.books.specs.declared.record.Record.{Record}
 use Rattle.books.specs.Entries.{Rising, no_record, key}
-use Rattle.fields.specs.declared.faults.LineFault.{LineFault}
 use Rattle.fields.specs.Numerals.{Bytes}
 use Rattle.fields.specs.Lines.{split}
-use Rattle.fields.specs.Checking.{Reported, reported, and_then, check_line}
+use Rattle.fields.specs.Checking.{reported, and_then, check_line}
 use Rattle.fields.specs.Checking.Checked.{good, faulty}
-use Rattle.fields.specs.Views.{LineCut, NoLine}
+use Rattle.fields.specs.Views.{LineCut}
 use Rattle.bookfile.specs.File.{WrittenBook, State, may_stand, form}
 use Rattle.bookfile.specs.File.State.{begin, middle}
 use Rattle.bookfile.specs.Reading.{rises_after, plus_record, enter_record, enter_line, read_line, read_lines, read_on}
@@ -25,15 +24,9 @@ use Rattle.bookfile.specs.Advance.{least_key, so_far, line_of, PlacedWell, PlusR
 use Rattle.bookfile.proofs.Standing.{AboveLast, above_last, last_below}
 
 module _ (m w : ℕ) where
-  -- a line that is ended, with the bytes left after it; and one that is not
+  -- a line that is ended, with the bytes left after it
   pub read_cut : (s : State) (k n : ℕ) (bs t left : Bytes) → LineCut k bs n t left → read_on m w s k bs ≡ and_then (read_line m w s k t) (λ s'. read_on m w s' (suc k) left)
   read_cut s k n bs t left c = ap (read_lines m w s k (split 10 bs).0) c.later ∙ ap (λ x. and_then (read_line m w s k x) (λ s'. read_on m w s' (suc k) left)) (sym c.first)
-
-  pub read_uncut_first : (k : ℕ) (bs : Bytes) (e : LineFault) → NoLine k bs e → read_on m w begin k bs ≡ faulty (reported 26 k 0)
-  read_uncut_first k bs e c = ap (read_lines m w begin k (split 10 bs).0) c.unended
-
-  pub read_uncut : (b : WrittenBook) (k : ℕ) (bs : Bytes) (e : LineFault) → NoLine k bs e → read_on m w (middle b) k bs ≡ faulty (reported 26 k 0)
-  read_uncut b k bs e c = ap (read_lines m w (middle b) k (split 10 bs).0) c.unended
 
   -- the first line and a later one, checked
   pub first_checked : (k : ℕ) (t left : Bytes) (y : ℕ × List ℤ) → check_line k (may_stand begin) (form begin) t ≡ good y → and_then (read_line m w begin k t) (λ s'. read_on m w s' (suc k) left) ≡ and_then (enter_line m w begin k y) (λ s'. read_on m w s' (suc k) left)
@@ -41,12 +34,6 @@ module _ (m w : ℕ) where
 
   pub later_checked : (b : WrittenBook) (k : ℕ) (t left : Bytes) (y : ℕ × List ℤ) → check_line k (may_stand (middle b)) (form (middle b)) t ≡ good y → and_then (read_line m w (middle b) k t) (λ s'. read_on m w s' (suc k) left) ≡ and_then (enter_line m w (middle b) k y) (λ s'. read_on m w s' (suc k) left)
   later_checked b k t left y h = ap (λ x. and_then (and_then x (enter_line m w (middle b) k)) (λ s'. read_on m w s' (suc k) left)) h
-
-  pub first_failed : (k : ℕ) (t left : Bytes) (f : Reported) → check_line k (may_stand begin) (form begin) t ≡ faulty f → and_then (read_line m w begin k t) (λ s'. read_on m w s' (suc k) left) ≡ faulty f
-  first_failed k t left f h = ap (λ x. and_then (and_then x (enter_line m w begin k)) (λ s'. read_on m w s' (suc k) left)) h
-
-  pub later_failed : (b : WrittenBook) (k : ℕ) (t left : Bytes) (f : Reported) → check_line k (may_stand (middle b)) (form (middle b)) t ≡ faulty f → and_then (read_line m w (middle b) k t) (λ s'. read_on m w s' (suc k) left) ≡ faulty f
-  later_failed b k t left f h = ap (λ x. and_then (and_then x (enter_line m w (middle b) k)) (λ s'. read_on m w s' (suc k) left)) h
 
 -- within the largest sizes a record rises above the last exactly where its key is the least or more
 key_rising : (d e : Record) → PlacedWell d → PlacedWell e → key d < key e → Rising d e
@@ -76,14 +63,10 @@ least_more es e =
     let n : length (es ++ (e ∷ [])) ≡ suc (length es) = simp length-append (omega arith) in
     least_last (es ++ (e ∷ [])) (length es) (sym n) ∙ ap (λ d. suc (key d)) (get_or_at es e [] no_record (length es) refl)
 
-not_so : (t : Bool) → ¬ (t ≡ true) → t ≡ false
-not_so true n = absurd (n refl)
-not_so false n = refl
-
 -- an R line: out of order, without room, entered
 module _ (m w : ℕ) (b : WrittenBook) (k : ℕ) (e : Record) (all : AllPlacedWell b.records) (u : PlacedWell e) where
   record_late : key e < least_key b.records → enter_record m w b k e ≡ faulty (reported 24 k 0)
-  record_late late = cond-false (rises_after b.records e) _ _ (not_so (rises_after b.records e) (λ up. let d = due_key b.records e all u (last_below b.records e up) in omega arith))
+  record_late late = cond-false (rises_after b.records e) _ _ (false_from_ne_true (rises_after b.records e) (λ up. let d = due_key b.records e all u (last_below b.records e up) in omega arith))
 
   record_full : least_key b.records ≤ key e → m ≤ length b.records → enter_record m w b k e ≡ faulty (reported 25 k 0)
   record_full due full = cond-true (rises_after b.records e) _ _ (above_last b.records e (key_due b.records e all u due)) ∙ cond-false (ltb (length b.records) m) _ _ (le-ltb (length b.records) m full)

@@ -1,9 +1,7 @@
 // What each line of a book file says.
-ghost use Rattle.std.specs.Prelude.{◌≡◌, ◌<◌, ◌≤◌, IfOk};
+ghost use Rattle.std.specs.Prelude.{◌<◌, IfOk};
 ghost use Rattle.bookfile.specs.Entries.{FitsSizes, FitsEntry};
 ghost use Rattle.bookfile.specs.Entered.{SizesRead, EntryRead, FieldsRead, size_values, record_values, worth_values};
-ghost use Rattle.fields.specs.declared.faults.FieldFault.TheVariants.{Letter};
-ghost use Rattle.fields.specs.declared.faults.LineFault.TheVariants.{Field};
 ghost use Rattle.bookfile.specs.File.{size_form, record_form, worth_form};
 
 use books::record::Record;
@@ -22,16 +20,6 @@ pub(crate) enum Entry {
     Outcome(Record),
     Worth { condition: usize, worth: i64 },
     End,
-}
-
-// A line with a letter that may not stand there.
-fn wrong_letter(line: Line<'_>) -> LineFault
-    ensures { result ≡ Field (Letter line.entry.number 1) }
-{
-    LineFault::Field(FieldFault::Letter {
-        line: line.number,
-        field: 1,
-    })
 }
 
 // After `B`: conditions, remedies, parts.
@@ -54,7 +42,7 @@ pub(crate) fn sizes_of(line: Line<'_>) -> Result<Sizes, LineFault>
 {
     let (first, rest) = Fields::of(line).cut();
     if letter(first)? != 'B' {
-        return Err(wrong_letter(line));
+        return Err(first.wrong_letter().into());
     }
     counted(line, 3)?;
     Ok(sizes_in(rest)?)
@@ -117,6 +105,6 @@ pub(crate) fn entry_of(sizes: Sizes, worths: usize, line: Line<'_>) -> Result<En
             counted(line, 0)?;
             Ok(Entry::End)
         }
-        _ => Err(wrong_letter(line)),
+        _ => Err(first.wrong_letter().into()),
     }
 }

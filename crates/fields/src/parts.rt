@@ -44,6 +44,18 @@ impl<'a> From<&'a [u8]> for Field<'a> {
     }
 }
 
+impl Placed<'_> {
+    // The fault of a letter that may not stand here, or of no letter at all.
+    pub fn wrong_letter(&self) -> FieldFault
+        ensures { result ≡ FieldFault.Letter self.now.line self.now.place }
+    {
+        FieldFault::Letter {
+            line: self.line,
+            field: self.place,
+        }
+    }
+}
+
 impl<'a> Fields<'a> {
     pub fn of(line: Line<'a>) -> Fields<'a>
         ensures { (result.line ≡ line.entry.number) × (result.place ≡ 1) × (result.rest.now ≡ line.entry.text.now) }
@@ -74,7 +86,7 @@ impl<'a> Fields<'a> {
     }
 }
 
-// Declines a line that has not just so many fields after its letter.
+// A line must have exactly so many fields after its letter.
 #[tactic(auto, using(crate::proofs::CodeLines::parts_after))]
 pub fn counted(line: Line<'_>, after: usize) -> Result<(), LineFault>
     ensures { MatchResult result (λ _. length (split 9 line.entry.text.now).1 ≡ after) (λ e. (e ≡ LineFault.Count line.entry.number) × (length (split 9 line.entry.text.now).1 ≢ after)) }
@@ -93,9 +105,6 @@ pub fn letter(field: Placed<'_>) -> Result<char, FieldFault>
 {
     match field.field {
         Field::Letter(c) => Ok(c),
-        _ => Err(FieldFault::Letter {
-            line: field.line,
-            field: field.place,
-        }),
+        _ => Err(field.wrong_letter()),
     }
 }

@@ -23,10 +23,7 @@ fn criterion_of(field: Placed<'_>) -> Result<By, FieldFault> {
     match letter(field)? {
         'M' => Ok(By::Mean),
         'F' => Ok(By::Floor),
-        _ => Err(FieldFault::Letter {
-            line: field.line,
-            field: field.place,
-        }),
+        _ => Err(field.wrong_letter()),
     }
 }
 
@@ -34,12 +31,8 @@ pub fn asked_in(line: Line<'_>) -> Result<Asked, LineFault>
     ensures { IfOk result (λ q. (1 ≤ q.visits) × (q.visits ≤ 48)) }
 {
     let (first, rest) = Fields::of(line).cut();
-    match letter(first)? {
-        'Q' => {}
-        _ => return Err(LineFault::Field(FieldFault::Letter {
-            line: line.number,
-            field: 1,
-        })),
+    if letter(first)? != 'Q' {
+        return Err(first.wrong_letter().into());
     }
     counted(line, 2)?;
     let (visits, rest) = rest.cut();
