@@ -12,7 +12,8 @@ use criteria::criterion::Criterion;
 use model::Book;
 use model::row::Row;
 
-// Fills the table of values of a table of remedies, the last visit first.
+// Fills the table of values of a table of remedies, the last visit first. It is the walk of a plan, but reads the remedies:
+// one walk for both takes a trait, with clauses for a table that is read or written, and two structs, and is longer.
 fn fill_values<B: Book, C: Criterion>(
     book: &B,
     by: &C,
