@@ -28,6 +28,7 @@ fn greatest_amount(outcomes: &[Outcome]) -> u64
 }
 
 // The largest size of an amount of share above 0 under a remedy; `row` is room for its outcomes.
+// The book and the row are apart: a chain that borrows a struct of both does not say that it leaves the book as it was.
 fn greatest_under<B: Book>(
     book: &B,
     visit: usize,
