@@ -42,7 +42,8 @@ slice_bounds-result-count c =
     let book = c.args.self.now in
     let few = book.sizes.fit.few_conditions in
     let few_remedies = book.sizes.fit.few_remedies in
-    in_order book.listing.records.now book.starts book.rows_start c.args.condition c.args.remedy (omega arith) (omega arith)
+    let order = in_order book.listing.records.now book.starts book.rows_start c.args.condition c.args.remedy (omega arith) (omega arith) in
+    omega arith
 
 pub slice_bounds-result-start : goal.slice_bounds-result-start
 slice_bounds-result-start c =
