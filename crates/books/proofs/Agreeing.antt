@@ -2,6 +2,7 @@
 use Rattle.std.proofs.Common.{◌≡◌, ℕ, zero, suc, ◌<◌, ◌≤◌, Bool, true, false, cond, ◌&&◌, ◌||◌, ltb, List, [], ◌∷◌, ◌++◌, get_or, ℤ, pos, sym, refl, ap, ◌∙◌, ⊎_elim, arith}
 use mathlib.Core.Path.{fun_ext}
 use lib.Arith.{digits_lt}
+use Rattle.std.specs.List.{All}
 use Rattle.std.proofs.lemmas.Bool.{cond-true, cond-false, and_parts, ltb-true, cases_lt}
 use Rattle.books.specs.declared.record.Record.{Record}
 use Rattle.books.specs.Alike.{inside, some_above, alike}
@@ -9,28 +10,20 @@ use Rattle.books.specs.Entries.{no_record}
 use Rattle.books.specs.Listed.{about, listed}
 use Rattle.books.specs.Tables.{spot}
 use Rattle.books.proofs.Lookups.{about_not, about_from}
+use Rattle.books.proofs.Turns.{all_none, all_one, all_turn}
 use Rattle.books.specs.Kinds.{in_turn, positive, positive_records, KindsAgree}
 
 -- none of the list is about these
 abbrev Away : (s x j : ℕ) → List Record → Type 0
-Away s x j [] = Unit {0}
-Away s x j (e ∷ es) = (about e s x j ≡ false) × Away s x j es
-
-away_join : (s x j : ℕ) (es ds : List Record) → Away s x j es → Away s x j ds → Away s x j (es ++ ds)
-away_join s x j [] ds a b = b
-away_join s x j (e ∷ es) ds a b = (a.0, away_join s x j es ds a.1 b)
-
-away_each : (s x j n : ℕ) (f : ℕ → List Record) → ((k : ℕ) → k < n → Away s x j (f k)) → Away s x j (in_turn n f)
-away_each s x j zero f h = tt
-away_each s x j (suc n) f h = away_join s x j (in_turn n f) (f n) (away_each s x j n f (λ k l. h k (omega arith))) (h n (omega arith))
+Away s x j = All (λ e. about e s x j ≡ false)
 
 listed_after : (s x j : ℕ) (es ds : List Record) → Away s x j es → listed (es ++ ds) s x j ≡ listed ds s x j
 listed_after s x j [] ds a = refl
-listed_after s x j (e ∷ es) ds a = cond-false (about e s x j) e (listed (es ++ ds) s x j) a.0 ∙ listed_after s x j es ds a.1
+listed_after s x j (e ∷ es) ds a = cond-false (about e s x j) e (listed (es ++ ds) s x j) (a 0 e (omega arith)) ∙ listed_after s x j es ds (λ k d l. a (suc k) d (omega arith))
 
 listed_away : (s x j : ℕ) (es : List Record) → Away s x j es → listed es s x j ≡ no_record
 listed_away s x j [] a = refl
-listed_away s x j (e ∷ es) a = cond-false (about e s x j) e (listed es s x j) a.0 ∙ listed_away s x j es a.1
+listed_away s x j (e ∷ es) a = cond-false (about e s x j) e (listed es s x j) (a 0 e (omega arith)) ∙ listed_away s x j es (λ k d l. a (suc k) d (omega arith))
 
 listed_before : (s x j : ℕ) (es ds : List Record) → Away s x j ds → listed (es ++ ds) s x j ≡ listed es s x j
 listed_before s x j [] ds a = listed_away s x j ds a
@@ -42,12 +35,12 @@ listed_turn s x j zero i f l h = absurd (omega arith)
 listed_turn s x j (suc n) i f l h =
     ⊎_elim
     (λ (b : i < n). listed_before s x j (in_turn n f) (f n) (h n (λ e. omega arith)) ∙ listed_turn s x j n i f b h)
-    (λ (b : n ≤ i). let same : n ≡ i = omega arith in listed_after s x j (in_turn n f) (f n) (away_each s x j n f (λ k m. h k (λ e. omega arith))) ∙ ap (λ (k : ℕ). listed (f k) s x j) same)
+    (λ (b : n ≤ i). let same : n ≡ i = omega arith in listed_after s x j (in_turn n f) (f n) (all_turn (λ e. about e s x j ≡ false) n f (λ k m. h k (λ e. omega arith))) ∙ ap (λ (k : ℕ). listed (f k) s x j) same)
     (cases_lt i n)
 
 away_positive : (s x j s' x' j' n : ℕ) (z : ℤ) → ((s' ≡ s) × (x' ≡ x) × (j' ≡ j) → ⊥) → Away s x j (positive s' x' j' n z)
-away_positive s x j s' x' j' zero z h = tt
-away_positive s x j s' x' j' (suc n) z h = (about_not (record { condition = s'; remedy = x'; next = j'; share = suc n; amount = z }) s x j h, tt)
+away_positive s x j s' x' j' zero z h = all_none _
+away_positive s x j s' x' j' (suc n) z h = let e : Record = record { condition = s'; remedy = x'; next = j'; share = suc n; amount = z } in all_one (λ d. about d s x j ≡ false) e (about_not e s x j h)
 
 positive_share : (s x j n : ℕ) (z : ℤ) → (listed (positive s x j n z) s x j).share ≡ n
 positive_share s x j zero z = refl
@@ -64,8 +57,8 @@ positive_amount s x j (suc n) z h =
 -- the record of an outcome among those of the positive shares
 found : (c r : ℕ) (shares : List ℕ) (amounts : List ℤ) (s x j : ℕ) → s < c → x < r → j < c → listed (positive_records c r shares amounts) s x j ≡ listed (positive s x j (get_or shares (spot c r s x j) 0) (get_or amounts (spot c r s x j) (pos 0))) s x j
 found c r shares amounts s x j a b d =
-    listed_turn s x j c s _ a (λ k n. away_each s x j r _ (λ x' m. away_each s x j c _ (λ j' q. away_positive s x j k x' j' _ _ (λ p. n p.0))))
-    ∙ listed_turn s x j r x _ b (λ k n. away_each s x j c _ (λ j' q. away_positive s x j s k j' _ _ (λ p. n p.1)))
+    listed_turn s x j c s _ a (λ k n. all_turn (λ e. about e s x j ≡ false) r _ (λ x' m. all_turn (λ e. about e s x j ≡ false) c _ (λ j' q. away_positive s x j k x' j' _ _ (λ p. n p.0))))
+    ∙ listed_turn s x j r x _ b (λ k n. all_turn (λ e. about e s x j ≡ false) c _ (λ j' q. away_positive s x j s k j' _ _ (λ p. n p.1)))
     ∙ listed_turn s x j c j _ d (λ k n. away_positive s x j s x k _ _ (λ p. n p.2))
 
 same_arm : {A : Type 0} (b : Bool) (x y z : A) → (b ≡ true → x ≡ y) → cond b x z ≡ cond b y z

@@ -1,5 +1,6 @@
 pub mod Lookups
 pub mod Orders
+pub mod Turns
 pub mod Agreeing
 pub mod Places
 pub mod Positives

@@ -1,34 +1,22 @@
 -- The records of a table's positive shares are in order and within the limits.
 use Rattle.std.proofs.Common.{◌≡◌, ℕ, zero, suc, ◌<◌, ◌≤◌, List, [], ◌∷◌, ◌++◌, length, get_or, ℤ, refl, subst, inl, inr, ⊎_elim, arith}
 use lib.Arith.{digits_lt}
+use Rattle.std.specs.List.{All}
 use Rattle.std.proofs.lemmas.Bool.{cases_order}
 use Rattle.books.specs.declared.record.Record.{Record}
 use Rattle.books.specs.Entries.{SmallMoney, RecordFits, Rising, no_record, rank, key}
 use Rattle.books.specs.Tables.{spot}
 use Rattle.books.specs.Kinds.{in_turn, positive, positive_records, PositivesMakeAList}
 use Rattle.books.proofs.Places.{in_first, in_third}
+use Rattle.books.proofs.Turns.{all_none, all_one, all_turn}
 
 abbrev AllFit : (c r parts : ℕ) → List Record → Type 0
-AllFit c r parts [] = Unit {0}
-AllFit c r parts (e ∷ es) = RecordFits c r parts e × AllFit c r parts es
+AllFit c r parts = All (RecordFits c r parts)
 
 -- keys rise from lo on, and stay below hi
 abbrev Between : (lo hi : ℕ) → List Record → Type 0
 Between lo hi [] = lo ≤ hi
 Between lo hi (e ∷ es) = (lo ≤ key e) × Between (suc (key e)) hi es
-
-fit_join : (c r parts : ℕ) (es ds : List Record) → AllFit c r parts es → AllFit c r parts ds → AllFit c r parts (es ++ ds)
-fit_join c r parts [] ds a b = b
-fit_join c r parts (e ∷ es) ds a b = (a.0, fit_join c r parts es ds a.1 b)
-
-fit_turn : (c r parts n : ℕ) (f : ℕ → List Record) → ((k : ℕ) → k < n → AllFit c r parts (f k)) → AllFit c r parts (in_turn n f)
-fit_turn c r parts zero f h = tt
-fit_turn c r parts (suc n) f h = fit_join c r parts (in_turn n f) (f n) (fit_turn c r parts n f (λ k l. h k (omega arith))) (h n (omega arith))
-
-fit_at : (c r parts : ℕ) (es : List Record) (i : ℕ) → AllFit c r parts es → i < length es → RecordFits c r parts (get_or es i no_record)
-fit_at c r parts [] i a l = absurd (omega arith)
-fit_at c r parts (e ∷ es) zero a l = a.0
-fit_at c r parts (e ∷ es) (suc i) a l = fit_at c r parts es i a.1 (omega arith)
 
 later : (lo lo' hi : ℕ) (es : List Record) → lo ≤ lo' → Between lo' hi es → Between lo hi es
 later lo lo' hi [] l b = omega arith
@@ -53,8 +41,9 @@ between_step lo hi (e ∷ (d ∷ es)) zero b l = b.1.0
 between_step lo hi (e ∷ (d ∷ es)) (suc k) b l = between_step (suc (key e)) hi (d ∷ es) k b.1 (omega arith)
 
 positive_fits : (c r parts s x j n : ℕ) (z : ℤ) → s < c → x < r → j < c → n ≤ parts → SmallMoney z → AllFit c r parts (positive s x j n z)
-positive_fits c r parts s x j zero z a b d l m = tt
-positive_fits c r parts s x j (suc n) z a b d l m = (record { some_condition = a; some_remedy = b; some_next = d; some_share = omega arith; few_share = l; small_amount = m }, tt)
+positive_fits c r parts s x j zero z a b d l m = all_none _
+positive_fits c r parts s x j (suc n) z a b d l m =
+    all_one (RecordFits c r parts) (record { condition = s; remedy = x; next = j; share = suc n; amount = z }) (record { some_condition = a; some_remedy = b; some_next = d; some_share = omega arith; few_share = l; small_amount = m })
 
 positive_between : (s x j n : ℕ) (z : ℤ) → Between (rank s x j) (rank s x (suc j)) (positive s x j n z)
 positive_between s x j zero z = omega arith
@@ -77,7 +66,7 @@ pub positives_make_a_list : PositivesMakeAList
 positives_make_a_list c r parts shares amounts worths (shaped, fits) =
     let sizes = shaped.0 in
     let es = positive_records c r shares amounts in
-    let fit : AllFit c r parts es = fit_turn c r parts c _ (λ s a. fit_turn c r parts r _ (λ x b. fit_turn c r parts c _ (λ j d.
+    let fit : AllFit c r parts es = all_turn (RecordFits c r parts) c _ (λ s a. all_turn (RecordFits c r parts) r _ (λ x b. all_turn (RecordFits c r parts) c _ (λ j d.
     let l = digits_lt (digits_lt a b) d in
     let m : spot c r s x j < length shares = omega arith in
     let n : spot c r s x j < length amounts = omega arith in
@@ -86,12 +75,12 @@ positives_make_a_list c r parts shares amounts worths (shaped, fits) =
       (sizes, shaped.3),
       λ t i h. (
         (λ e. let l = in_first _ _ _ t i h e in (
-          fit_at c r parts es i fit l,
+          fit i no_record l,
           λ k q.
               let m : suc k < length es = omega arith in
               let n : k < length es = omega arith in
               let P : ℕ → Type 0 = λ i'. Rising (get_or es k no_record) (get_or es i' no_record) in
-              subst P q (key_rising c r parts _ _ sizes.few_conditions sizes.few_remedies (fit_at c r parts es k fit n) (fit_at c r parts es (suc k) fit m) (between_step 0 (rank c 0 0) es k order m)),
+              subst P q (key_rising c r parts _ _ sizes.few_conditions sizes.few_remedies (fit k no_record n) (fit (suc k) no_record m) (between_step 0 (rank c 0 0) es k order m)),
         )),
         (λ e. (fits 3 i (inr (inr (refl, in_third _ _ _ t i h e)))).2 refl),
       ),

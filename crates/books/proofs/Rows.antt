@@ -1,7 +1,6 @@
 -- The records of a row are its outcomes.
-use Rattle.std.proofs.Common.{◌≡◌, ℕ, zero, suc, ◌+◌, ◌<◌, ◌≤◌, Bool, true, false, cond, ◌&&◌, ltb, List, [], ◌∷◌, ◌++◌, length, get_or, take, drop, ◌-◌, pos, sym, refl, ap, ◌∙◌, subst, ⊎_elim, arith}
+use Rattle.std.proofs.Common.{◌≡◌, ℕ, zero, suc, ◌+◌, ◌<◌, ◌≤◌, Bool, true, false, cond, ◌&&◌, ltb, List, [], ◌∷◌, ◌++◌, length, get_or, pos, sym, refl, ap, ◌∙◌, subst, ⊎_elim, arith}
 use Rattle.std.proofs.lemmas.Bool.{cond-true, cond-false, and_from, and_parts, ltb-true, cases_lt, cases_order, lt-ltb, le-ltb}
-use Rattle.std.proofs.lemmas.List.{get_or-take, get_or-drop}
 use Rattle.model.specs.Model.{Model}
 use Rattle.model.specs.Rows.{outcome, outcomes}
 use Rattle.model.specs.declared.row.Outcome.{Outcome}
@@ -13,10 +12,6 @@ use Rattle.books.specs.Entries.{no_record, outcome_of, StandBefore, rank, key}
 use Rattle.books.specs.Listed.{listed}
 use Rattle.books.specs.Means.{list_means}
 use Rattle.books.proofs.Lookups.{listed_none, listed_hit, about_not}
-
--- an element of the records from the first on
-pub from_first : (es : List Record) (m i : ℕ) → i < length es - m → get_or (take (length es - m) (drop m es)) i no_record ≡ get_or es (m + i) no_record
-from_first es m i l = get_or-take (length es - m) (drop m es) i no_record l ∙ get_or-drop m es i no_record
 
 -- shares of 0 add no outcome
 skip_to : (m : Model) (n s x t j : ℕ) → j ≤ t → ((i : ℕ) → j ≤ i → i < t → m.share n s x i ≡ 0) → outcomes m n s x j ≡ outcomes m n s x t

@@ -57,7 +57,14 @@ pub record StandBefore (es : List Record) (rank m : ℕ) : Type 0 where
   pub below : (i : ℕ) → i < m → key (slice_index_or es i no_record) < rank
   pub above : (i : ℕ) → m ≤ i → i < length es → rank ≤ key (slice_index_or es i no_record)
 
--- of each row, a row being a condition and a remedy, in order 8 × condition + remedy: starts has how many
--- records stand before it
+-- of each row, a row being a condition and a remedy, in order 8 × condition + remedy, and of the end of the
+-- last one: starts has how many records stand before it
 abbrev pub RowsStart : List Record → (starts : List ℕ) → Type 0
-RowsStart es starts = (k : ℕ) → k < 256 → StandBefore es (k * 32) (slice_index starts k)
+RowsStart es starts = (k : ℕ) → k < 257 → StandBefore es (k * 32) (slice_index starts k)
+
+-- the records of a row: those from the first that does not stand before it to the first that stands after it
+pub record IsRow (es : List Record) (s x : ℕ) (row : List Record) : Type 0 where
+  pub first : ℕ
+  pub from : StandBefore es (rank s x 0) first
+  pub to : StandBefore es (rank s x 32) (first + length row)
+  pub same : (i : ℕ) → i < length row → slice_index_or row i no_record ≡ slice_index_or es (first + i) no_record

@@ -10,13 +10,13 @@ use super::sizes::Sizes;
 
 // A book that lists what may happen: records rising by condition, remedy and next condition, and the
 // worths. What is not listed has share 0 and amount 0. `starts` has, for every condition and remedy, how
-// many records stand before theirs: a row is found without a search.
+// many records stand before theirs, and last how many there are: a row is found without a search.
 #[derive(Clone, Copy)]
 pub struct ListBook<'a> {
     sizes: Sizes,
     listing: Listing<'a>,
     worths: &'a [i64],
-    starts: [usize; 256],
+    starts: [usize; 257],
     ghost worths_long: { length worths.now ≡ sizes.conditions },
     ghost records_placed: { AllPlaced sizes.conditions sizes.remedies listing.records.now },
     ghost records_valued: { AllValued sizes.parts listing.records.now },

@@ -1,7 +1,7 @@
 // What a list book answers.
 ghost use Rattle.std.specs.Prelude.{◌≡◌, ◌<◌, pos, MatchOption};
 ghost use Rattle.books.specs.Alike.{some_above};
-ghost use Rattle.books.specs.Entries.{StandBefore, rank};
+ghost use Rattle.books.specs.Entries.{IsRow};
 ghost use Rattle.books.specs.Listed.{listed};
 ghost use Rattle.books.specs.Lawfuls.{list_lawful};
 ghost use Rattle.books.specs.Means.{list_means};
@@ -27,12 +27,13 @@ impl<'a> ListBook<'a> {
         self.worths
     }
 
-    // How many of the records stand before the row of a condition and a remedy.
-    fn first_of(&self, condition: usize, remedy: usize) -> usize
+    // The records of a condition and a remedy.
+    fn row_of(&self, condition: usize, remedy: usize) -> &'a [Record]
         requires { (condition < self.now.sizes.conditions) × (remedy < self.now.sizes.remedies) }
-        ensures { StandBefore self.now.listing.records.now (rank condition remedy 0) result }
+        ensures { IsRow self.now.listing.records.now condition remedy result.now }
     {
-        self.starts[condition * 8 + remedy]
+        let row = condition * 8 + remedy;
+        &self.listing.records[self.starts[row]..self.starts[row + 1]]
     }
 
     // Whether a record has this condition and this remedy.
@@ -40,9 +41,7 @@ impl<'a> ListBook<'a> {
         requires { (condition < self.now.sizes.conditions) × (remedy < self.now.sizes.remedies) }
         ensures { result ≡ some_above (λ j. (listed self.now.listing.records.now condition remedy j).share) self.now.sizes.conditions }
     {
-        let first = self.first_of(condition, remedy);
-        let found = self.listing.records.get(first);
-        found.is_some_and(|found| found.condition == condition && found.remedy == remedy)
+        !self.row_of(condition, remedy).is_empty()
     }
 
     // The record of an outcome, if it is listed; none is outside the sizes.
@@ -108,11 +107,7 @@ impl Book for ListBook<'_> {
         if !self.sizes.has(visit, condition, remedy) {
             return;
         }
-        let first = self.first_of(condition, remedy);
-        for found in &self.listing.records[first..] {
-            if found.condition != condition || found.remedy != remedy {
-                break;
-            }
+        for found in self.row_of(condition, remedy) {
             row.push(found.outcome());
         }
     }

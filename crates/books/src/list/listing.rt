@@ -43,8 +43,8 @@ impl<'a> Listing<'a> {
         })
     }
 
-    // The same of every row.
-    pub(super) fn starts(&self) -> [usize; 256]
+    // The same of every row, and of what would be the next one.
+    pub(super) fn starts(&self) -> [usize; 257]
         ensures { RowsStart self.now.records.now result }
     {
         std::array::from_fn(|row| self.before_row(row))

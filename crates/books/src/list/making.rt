@@ -69,7 +69,7 @@ impl<'a> ListBook<'a> {
             },
             listing: Listing { records: &[] },
             worths: &[0],
-            starts: [0; 256],
+            starts: [0; 257],
         }
     }
 

@@ -1,27 +1,62 @@
-use Rattle.std.proofs.Common.{◌≡◌, ◌+◌, ◌<◌, length, get_or, sym, ap, ◌∙◌, arith, length-drop}
+use Rattle.std.proofs.Common.{◌≡◌, ℕ, ◌+◌, ◌<◌, List, length, get_or, sym, ap, ◌∙◌, ltb, subst, arith}
+use Rattle.std.proofs.lemmas.Bool.{and_parts, ltb-true}
+use Rattle.model.specs.declared.row.Outcome.{Outcome}
+use Rattle.books.specs.declared.list.ListBook.{ListBook}
 use Rattle.books.specs.declared.record.Record.{Record}
-use Rattle.books.specs.Entries.{no_record, outcome_of}
-use Rattle.books.proofs.Rows.{from_first, outside, finished, later, written, stand_more}
+use Rattle.books.specs.Entries.{no_record, outcome_of, StandBefore, IsRow, rank}
+use Rattle.books.proofs.Rows.{outside, finished, later, written, stand_more}
 use Rattle.books.proofs.list.answers.ListBookBook.row.Goals as goal
-use Rattle.books.proofs.list.answers.ListBookBook.row.Goals.{then-found-condition-via-then-found-condition, then-found-condition-via-else-found-condition+then-found-remedy}
+
+-- a record of the row's is of the row
+module _ (book : ListBook) (s x i : ℕ) (records : List Record) (row : IsRow book.listing.records.now s x records) (xl : x < 8) (l : i < length records) where
+  abbrev at : ℕ
+  at = row.first + i
+
+  inside : at < length book.listing.records.now
+  inside = let within = row.to.within in omega arith
+
+  of_row : ((get_or book.listing.records.now at no_record).condition ≡ s) × ((get_or book.listing.records.now at no_record).remedy ≡ x)
+  of_row =
+      let low = row.from.above at (omega arith) inside in
+      let high = row.to.below at (omega arith) in
+      let p = book.listing.placed at inside in (omega arith, omega arith)
+
+-- the record after the row is not
+after_row : (book : ListBook) (s x : ℕ) (records : List Record) (row : IsRow book.listing.records.now s x records) → row.first + length records < length book.listing.records.now → ((get_or book.listing.records.now (row.first + length records) no_record).condition ≡ s) × ((get_or book.listing.records.now (row.first + length records) no_record).remedy ≡ x) → ⊥
+after_row book s x records row l p =
+    let high = row.to.above (row.first + length records) (omega arith) l in
+    let q = book.listing.placed (row.first + length records) l in
+    absurd (omega arith)
 
 pub returns-then-not-has : goal.returns-then-not-has
 returns-then-not-has c = c.clear.ensures ∙ outside c.args.self.now c.args.visit c.args.condition c.args.remedy (sym c.if-not-has.ensures)
 
+pub loop-found-init : goal.loop-found-init
+loop-found-init c =
+    let row = c.row_of-found-items.ensures in (
+      row,
+      0,
+      omega arith,
+      omega (arith, ap (λ (os : List Outcome). length os) c.clear.ensures),
+      c.clear.ensures,
+      subst (StandBefore c.args.self.now.listing.records.now (rank c.args.condition c.args.remedy 0)) (omega arith) row.from,
+    )
+
 pub loop-found-preserved : goal.loop-found-preserved
 loop-found-preserved c =
     let book = c.args.self.now in
-    let (j, few, count, so, stand) = c.loop-found.invariant in
-    let at = c.first_of-first.result + c.loop-found.found-index in
+    let (row, j, few, count, so, stand) = c.loop-found.invariant in
+    let at = row.first + c.loop-found.found-index in
     let next = (get_or book.listing.records.now at no_record).next in
     let some = sym c.if-not-has.ensures in
-    let l : at < length book.listing.records.now = omega (arith, length-drop {A = Record}) in
-    let same = from_first book.listing.records.now c.first_of-first.result c.loop-found.found-index (omega (arith, length-drop {A = Record})) in
-    let a : (get_or book.listing.records.now at no_record).condition ≡ c.args.condition = ap (λ (e : Record). e.condition) (sym same) ∙ omega arith in
-    let b : (get_or book.listing.records.now at no_record).remedy ≡ c.args.remedy = ap (λ (e : Record). e.remedy) (sym same) ∙ omega arith in
+    let few_remedies = book.sizes.fit.few_remedies in
+    let less = ltb-true c.args.remedy book.sizes.remedies (and_parts _ (ltb c.args.remedy book.sizes.remedies) some).1 in
+    let l = inside book c.args.condition c.args.remedy c.loop-found.found-index c.row_of-found-items.result.now row (omega arith) c.loop-found-test.true in
+    let (a, b) = of_row book c.args.condition c.args.remedy c.loop-found.found-index c.row_of-found-items.result.now row (omega arith) c.loop-found-test.true in
+    let same = row.same c.loop-found.found-index c.loop-found-test.true in
     let p = book.records_placed at l in
-    let later = later book c.args.visit c.args.condition c.args.remedy some at j stand l a b in
-    let n = book.sizes.fit.few_conditions in (
+    let later = later book c.args.visit c.args.condition c.args.remedy some at j stand l a b in (
+      row,
       next + 1,
       omega arith,
       omega (arith, later, c.push.ensures.len),
@@ -29,18 +64,9 @@ loop-found-preserved c =
       stand_more book c.args.visit c.args.condition c.args.remedy some at j stand l a b _ (omega arith),
     )
 
-pub returns-after-loop-found : goal.returns-after-loop-found
-returns-after-loop-found c =
+pub returns : goal.returns
+returns c =
     let book = c.args.self.now in
-    let (j, few, count, so, stand) = c.loop-found.invariant in
-    so ∙ finished book c.args.visit c.args.condition c.args.remedy (sym c.if-not-has.ensures) _ j stand few (λ l p. absurd (omega arith))
-
-pub returns-then-found-condition : goal.returns-then-found-condition
-returns-then-found-condition c =
-    let book = c.args.self.now in
-    let (j, few, count, so, stand) = c.loop-found.invariant in
-    so ∙ finished book c.args.visit c.args.condition c.args.remedy (sym c.if-not-has.ensures) _ j stand few (λ l p.
-    let same = from_first book.listing.records.now c.first_of-first.result c.loop-found.found-index (omega arith) in
-    let a = ap (λ (e : Record). e.condition) same in
-    let b = ap (λ (e : Record). e.remedy) same in
-    elim c.then-found-condition.branch [ then-found-condition-via-then-found-condition w ↦ omega (arith, w.if-found-condition.true) | then-found-condition-via-else-found-condition+then-found-remedy w ↦ omega (arith, w.if-found-remedy.true) ])
+    let (row, j, few, count, so, stand) = c.loop-found.invariant in
+    let here : c.loop-found.found-index ≡ length c.row_of-found-items.result.now = omega arith in
+    so ∙ finished book c.args.visit c.args.condition c.args.remedy (sym c.if-not-has.ensures) (row.first + length c.row_of-found-items.result.now) j (subst (λ i. StandBefore book.listing.records.now (rank c.args.condition c.args.remedy j) (row.first + i)) here stand) few (after_row book c.args.condition c.args.remedy c.row_of-found-items.result.now row)

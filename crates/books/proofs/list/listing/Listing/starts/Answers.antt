@@ -17,4 +17,4 @@ each_given {F} g f P h ys i (suc n) (q, y, at, called, rest) k a b =
     (cases_lt i k)
 
 pub returns : goal.returns
-returns c = λ k l. each_given _ _ (λ k m. StandBefore c.args.self.now.records.now (k * 32) m) (λ k m q called. search rules) c.from_fn.result 0 256 c.from_fn.ensures.items.each k (omega arith) l
+returns c = λ k l. each_given _ _ (λ k m. StandBefore c.args.self.now.records.now (k * 32) m) (λ k m q called. search rules) c.from_fn.result 0 257 c.from_fn.ensures.items.each k (omega arith) l
