@@ -14,7 +14,7 @@ use fields::parts::{Fields, counted, letter};
 // The largest amount or worth of a file, either way.
 const MOST: u32 = 1_000_000;
 
-// A line after the first: a record, the worth of a condition, or the end.
+// A line after the first: a record, the worth of a condition, or the end, which is a line too.
 #[derive(Clone, Copy)]
 pub(crate) enum Entry {
     Outcome(Record),

@@ -16,6 +16,7 @@ pub enum FileFault {
     Surplus { line: usize },
 }
 
+// By hand: a derived one promises nothing of the fault that comes out.
 impl From<LineFault> for FileFault {
     ghost from_gives = { λ e r. r ≡ Line e };
 
@@ -36,6 +37,7 @@ impl FileFault {
         }
     }
 
+    // Three places are printed of every fault, 0 where there is none.
     pub fn places(&self) -> (usize, usize, usize)
         ensures { result ≡ file_fault_places self.now }
     {

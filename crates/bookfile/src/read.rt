@@ -29,7 +29,8 @@ fn check(bytes: &[u8], room: Room) -> Result<ReadBook, FileFault>
     }
 }
 
-// Writes the records and worths of a file that was checked.
+// Writes the records and worths of a file that was checked. A walk with a closure, for this and the check, would
+// lose the lengths of the tables.
 fn fill(bytes: &[u8], records: &mut [Record], worths: &mut [i64]) -> Result<ReadBook, FileFault>
     ensures read { CheckAnswers (length records.old) (length worths.old) bytes.now result }
     ensures readable { IfOk result (λ b. Readable b (length records.old) (length worths.old)) }

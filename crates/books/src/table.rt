@@ -7,7 +7,7 @@ mod making;
 use super::sizes::Sizes;
 
 // A book of full tables: shares and amounts in order of condition, remedy and next condition, and the
-// worths.
+// worths, each table lent by itself.
 #[derive(Clone, Copy)]
 pub struct TableBook<'a> {
     sizes: Sizes,

@@ -2,7 +2,8 @@ ghost use Rattle.std.specs.Prelude.{◌≡◌};
 ghost use Rattle.criteria.specs.Criteria.{Ops, Laws};
 
 // A criterion of optimality. A value is what plans are compared by; an account takes in the outcomes
-// of one visit, one after another, and is then closed to a value. Each answer is from what is given alone.
+// of one visit, one after another, and is then closed to a value. Each answer is from what is given alone. Other
+// criteria are written to this interface, so it takes plain numbers.
 pub trait Criterion {
     type Value: Copy + Drop;
 

@@ -4,7 +4,8 @@ ghost use Rattle.criteria.specs.Keeping.{mean_lawful};
 
 use super::criterion::Criterion;
 
-// The expected total times parts to the power of the visits left. It keeps the powers of the parts that it is made for.
+// The expected total times parts to the power of the visits left. It keeps the powers of
+// the parts that it is made for: one is asked for with every outcome.
 #[derive(Clone, Copy)]
 pub struct Mean {
     base: u32,
@@ -52,6 +53,7 @@ impl Criterion for Mean {
 
     ghost laws = { λ _. mean_lawful };
 
+    // closing, close and good are the floor's too; see there.
     fn closing(&self, worth: i64) -> i64 {
         worth
     }

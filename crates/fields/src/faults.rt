@@ -3,6 +3,7 @@ ghost use Rattle.std.specs.Prelude.{◌≡◌};
 ghost use Rattle.fields.specs.Faults.{field_fault_number, field_fault_places, line_fault_number, line_fault_places};
 ghost use Rattle.fields.specs.declared.faults.LineFault.TheVariants.{Field};
 
+// Line and field stand in each case, as it is told.
 #[derive(Clone, Copy, Debug, PartialEq)]
 pub enum FieldFault {
     // A letter that may not stand there, or no letter at all.
@@ -22,6 +23,7 @@ pub enum LineFault {
     Unended { line: usize },
 }
 
+// By hand: a derived one promises nothing of the fault that comes out.
 impl From<FieldFault> for LineFault {
     ghost from_gives = { λ e r. r ≡ Field e };
 
@@ -41,6 +43,7 @@ impl FieldFault {
         }
     }
 
+    // Three places are printed of every fault, 0 where there is none.
     pub fn places(&self) -> (usize, usize, usize)
         ensures { result ≡ field_fault_places self.now }
     {
@@ -63,6 +66,7 @@ impl LineFault {
         }
     }
 
+    // Three places are printed of every fault, 0 where there is none.
     pub fn places(&self) -> (usize, usize, usize)
         ensures { result ≡ line_fault_places self.now }
     {

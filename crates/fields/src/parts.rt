@@ -67,7 +67,7 @@ impl<'a> Fields<'a> {
         }
     }
 
-    // The next field, empty past the last one, and the fields after it.
+    // The next field, and the fields after it. Past the last one it is empty: who cuts has counted the fields.
     pub fn cut(self) -> (Placed<'a>, Fields<'a>)
         ensures field { CutField self.entry.line self.entry.place self.entry.rest.now result.0.line result.0.place result.0.field }
         ensures after { LeftAfter self.entry.line self.entry.place self.entry.rest.now result.1.line result.1.place result.1.rest.now }

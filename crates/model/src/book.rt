@@ -6,7 +6,8 @@ use super::row::{Outcome, Row};
 
 // A book of remedies: sizes, parts and four answers. Conditions and remedies count from 0, visits from 1.
 // `model` is all of it as one value; every number may be asked, and beyond the sizes, or at a visit
-// outside 1 to 48, the answer is not offered, or 0.
+// outside 1 to 48, the answer is not offered, or 0. Other books are written to this interface, so a question
+// takes plain numbers.
 pub trait Book {
     ghost model: { Self → Model };
 

@@ -43,6 +43,7 @@ fn fill<B: Book, C: Criterion>(
 }
 
 // Plans the visits: fills both tables and answers how many remedies it named, or says why not and leaves them.
+// Each table is lent by itself.
 pub fn plan<B: Book, C: Criterion>(
     book: &B,
     by: &C,

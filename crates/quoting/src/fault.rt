@@ -19,6 +19,7 @@ pub enum Fault {
     Plan(PlanRefusal),
 }
 
+// These four by hand: a derived one promises nothing of the fault that comes out.
 impl From<LineFault> for Fault {
     ghost from_gives = { λ e r. r ≡ Question e };
 
@@ -64,6 +65,7 @@ impl Fault {
         }
     }
 
+    // Three places are printed of every fault, 0 where there is none.
     pub fn places(&self) -> (usize, usize, usize)
         ensures { result ≡ fault_places self.now }
     {

@@ -19,6 +19,7 @@ pub struct Asked {
     pub by: By,
 }
 
+// By a letter, and no TryFrom: the fault names the field's place.
 fn criterion_of(field: Placed<'_>) -> Result<By, FieldFault> {
     match letter(field)? {
         'M' => Ok(By::Mean),

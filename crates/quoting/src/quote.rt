@@ -19,7 +19,7 @@ use totals::plan::plan_totals;
 // The most bytes that an input may have.
 pub const LONGEST: usize = 32768;
 
-// Plans by the criterion that is asked for.
+// Plans by the criterion that is asked for: one of two, known when the input is read.
 fn planned<B: Book>(
     book: &B,
     asked: Asked,

@@ -7,7 +7,8 @@ use super::refusal::NoteRefusal;
 use std::alloc::{AllocError, Global};
 use std::marker::Model;
 
-// The notes of a sheet in order of entry, placed from 1. There is room for all 24 from the start.
+// The notes of a sheet in order of entry, placed from 1. There is room for all 24 from the start, and
+// memory is asked for when the sheet is made, which may fail.
 #[derive(Drop)]
 pub struct Notes {
     list: Vec<Note>,

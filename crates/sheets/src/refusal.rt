@@ -26,6 +26,7 @@ impl NoteRefusal {
         }
     }
 
+    // Three places are printed of every fault, 0 where there is none.
     pub fn places(&self) -> (usize, usize, usize)
         ensures { result ≡ places_of self.now }
     {

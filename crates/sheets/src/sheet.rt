@@ -18,7 +18,7 @@ pub struct Sheet<B> {
     notes: Notes,
 }
 
-// There was no memory for a sheet; the book comes back.
+// There was no memory for a sheet; the book comes back. Not AllocFailed, which is std's to make.
 #[derive(Drop)]
 pub struct NoMemory<B> {
     pub book: B,
@@ -86,7 +86,8 @@ impl<B: Book> Sheet<B> {
             && next < conditions
     }
 
-    // Bars the remedy in the condition from the first visit to the last; answers the note's place.
+    // Bars the remedy in the condition from the first visit to the last; answers the note's place. Like the others it
+    // says that the book stays: no invariant compares before and after.
     pub fn bar(
         &mut self,
         condition: usize,

@@ -27,7 +27,7 @@ impl<'a> ListBook<'a> {
         self.worths
     }
 
-    // The records of a condition and a remedy.
+    // The records of a condition and a remedy, two numbers: a type for the pair would be made in every look-up.
     fn row_of(&self, condition: usize, remedy: usize) -> &'a [Record]
         requires { (condition < self.now.sizes.conditions) × (remedy < self.now.sizes.remedies) }
         ensures { IsRow self.now.listing.records.now condition remedy result.now }
@@ -67,6 +67,7 @@ impl<'a> ListBook<'a> {
     }
 }
 
+// The sizes and the worths in one line each, as of a table book: a trait that both share would be longer.
 impl Book for ListBook<'_> {
     ghost model = { list_means };
 

@@ -73,7 +73,7 @@ impl<'a> ListBook<'a> {
         }
     }
 
-    // The book of the records and worths that are lent.
+    // The book of the records and worths that are lent. It takes numbers: checked `Sizes` would ask more of callers.
     pub fn new(
         conditions: usize,
         remedies: usize,

@@ -42,6 +42,7 @@ impl TableBook<'_> {
     }
 }
 
+// The sizes and the worths in one line each, as of a list book: a trait that both share would be longer.
 impl Book for TableBook<'_> {
     ghost model = { table_means };
 

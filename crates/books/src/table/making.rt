@@ -52,7 +52,7 @@ impl<'a> TableBook<'a> {
         }
     }
 
-    // The book of the tables that are lent.
+    // The book of the tables that are lent. It takes numbers: checked `Sizes` would ask more of callers.
     pub fn new(
         conditions: usize,
         remedies: usize,
