@@ -1,5 +1,5 @@
 -- What is printed of a plan and of a fault.
-use Rattle.std.specs.Prelude.{ℕ, zero, suc, ◌+◌, ◌/◌, ◌%◌, List, [], ◌∷◌, ◌++◌, length, ℤ, pos, Ok, Err, Result, slice_index, slice_index_or}
+use Rattle.std.specs.Prelude.{ℕ, zero, suc, ◌+◌, ◌/◌, ◌%◌, List, [], ◌∷◌, ◌++◌, ℤ, pos, Ok, Err, Result, slice_index, slice_index_or}
 use Rattle.fields.specs.Numerals.{Bytes, numeral, signed}
 use Rattle.fields.specs.Lines.{line}
 use Rattle.quoting.specs.declared.fault.Fault.{Fault}
@@ -20,9 +20,9 @@ plan_lines c vs rs zero = []
 plan_lines c vs rs (suc i) = plan_lines c vs rs i ++ plan_line (i / c + 1) (i % c) (slice_index rs i) (slice_index_or vs i (pos 0))
 
 -- the P lines of a plan and a T line (84) with their count
-abbrev pub text_of_plan : (conditions : ℕ) → List ℤ → List ℕ → Bytes
-text_of_plan c vs rs = plan_lines c vs rs (length rs) ++ line 84 (numeral (length rs) ∷ [])
+abbrev pub text_of_plan : (conditions : ℕ) → List ℤ → List ℕ → (n : ℕ) → Bytes
+text_of_plan c vs rs n = plan_lines c vs rs n ++ line 84 (numeral n ∷ [])
 
-abbrev pub printed : Result Quote Fault → Bytes
-printed (Ok q) = text_of_plan q.conditions q.values.now q.remedies.now
-printed (Err f) = refusal_line (fault_number f) (fault_places f)
+abbrev pub printed : Result Quote Fault → List ℤ → List ℕ → Bytes
+printed (Ok q) vs rs = text_of_plan q.conditions vs rs q.entries
+printed (Err f) vs rs = refusal_line (fault_number f) (fault_places f)

@@ -35,7 +35,7 @@ fn planned<B: Book>(
 }
 
 // Reads the input, plans in the tables, and answers what was planned or the first fault of any layer.
-pub fn quote<'t>(bytes: &[u8], tables: &'t mut Tables) -> Result<Quote<'t>, Fault>
+pub fn quote(bytes: &[u8], tables: &mut Tables) -> Result<Quote, Fault>
     ensures { MatchResult result (λ _. length bytes.now ≤ 32768) (λ e. LongExactly e (length bytes.now)) }
 {
     if bytes.len() > LONGEST {
@@ -62,10 +62,8 @@ pub fn quote<'t>(bytes: &[u8], tables: &'t mut Tables) -> Result<Quote<'t>, Faul
         tables.values.as_mut_slice(),
         tables.remedies.as_mut_slice(),
     )?;
-    let tables: &'t Tables = tables;
     Ok(Quote {
         conditions,
-        values: &tables.values()[..entries],
-        remedies: &tables.remedies()[..entries],
+        entries,
     })
 }

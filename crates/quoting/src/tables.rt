@@ -1,17 +1,16 @@
 // The tables that a quote works in, made once.
-ghost use Rattle.std.specs.Prelude.{◌≡◌, ◌≤◌, length, vec_len};
+ghost use Rattle.std.specs.Prelude.{◌≡◌, ◌≤◌, vec_len};
 
 use books::record::Record;
 use std::alloc::{AllocError, Global};
 
-const RECORDS: usize = 2048;
+pub const RECORDS: usize = 2048;
 
 const CONDITIONS: usize = 32;
 
 const VISITS: usize = 48;
 
-// Room for 2,048 records and 32 worths, for the remedies of 48 visits in 32 conditions, and for their values,
-// with a row more for 0 visits.
+// Room for 2,048 records and 32 worths, and for the values and remedies of 48 visits in 32 conditions.
 #[derive(Drop)]
 pub struct Tables {
     pub(crate) records: Vec<Record>,
@@ -24,15 +23,13 @@ pub struct Tables {
     ghost all_remedies: { vec_len remedies ≡ 1536 },
 }
 
-// A plan that lies in the tables: the value and the remedy of each entry, in order of visit, then condition.
+// A plan that lies in the tables: so many conditions, so many entries in order of visit, then condition.
 #[derive(Clone, Copy)]
-pub struct Quote<'t> {
+pub struct Quote {
     pub(crate) conditions: usize,
-    pub(crate) values: &'t [i64],
-    pub(crate) remedies: &'t [u8],
+    pub(crate) entries: usize,
     ghost some_condition: { 1 ≤ conditions },
-    ghost paired: { length values.now ≡ length remedies.now },
-    ghost few_entries: { length remedies.now ≤ 1536 },
+    ghost few_entries: { entries ≤ 1536 },
 }
 
 impl Tables {
@@ -48,18 +45,5 @@ impl Tables {
             values,
             remedies,
         })
-    }
-
-    // The values, and the remedies, of all visits that there is room for.
-    pub(crate) fn values(&self) -> &[i64]
-        ensures { result.now ≡ self.now.values.items }
-    {
-        self.values.as_slice()
-    }
-
-    pub(crate) fn remedies(&self) -> &[u8]
-        ensures { result.now ≡ self.now.remedies.items }
-    {
-        self.remedies.as_slice()
     }
 }

@@ -4,7 +4,7 @@ ghost use Rattle.quoting.specs.Faults.{fault_number, fault_places};
 ghost use Rattle.quoting.specs.Printing.{refusal_line, text_of_plan, printed};
 
 use super::fault::Fault;
-use super::tables::Quote;
+use super::tables::{Quote, Tables};
 use std::alloc::{AllocError, Global};
 
 fn fault_text(heap: Global, fault: &Fault) -> Result<String, AllocError>
@@ -17,31 +17,40 @@ fn fault_text(heap: Global, fault: &Fault) -> Result<String, AllocError>
 
 fn plan_text(
     heap: Global,
-    conditions: usize,
+    quote: Quote,
     values: &[i64],
     remedies: &[u8],
 ) -> Result<String, AllocError>
-    requires some_condition { 1 ≤ conditions }
-    requires paired { length values.now ≡ length remedies.now }
-    ensures { IfOk result (λ s. string_bytes s ≡ text_of_plan conditions values.now remedies.now) }
+    requires values { 1536 ≤ length values.now }
+    requires remedies { 1536 ≤ length remedies.now }
+    ensures { IfOk result (λ s. string_bytes s ≡ text_of_plan quote.conditions values.now remedies.now quote.entries) }
 {
     let mut out = String::new(heap);
-    for (i, (&value, &remedy)) in values.iter().zip(remedies).enumerate() {
-        let visit = i / conditions + 1;
-        let condition = i % conditions;
+    let entries = quote.entries;
+    for (i, (&value, &remedy)) in values.iter().zip(remedies).take(entries).enumerate() {
+        let visit = i / quote.conditions + 1;
+        let condition = i % quote.conditions;
         writeln!(out, "P\t{visit}\t{condition}\t{remedy}\t{value}")?;
     }
-    let entries = remedies.len();
     writeln!(out, "T\t{entries}")?;
     Ok(out)
 }
 
 // A `P` line for each entry and a `T` line with their count, or one `N` line with number and places.
-pub fn text(heap: Global, answer: Result<Quote<'_>, Fault>) -> Result<String, AllocError>
-    ensures { IfOk result (λ s. string_bytes s ≡ printed answer.entry) }
+pub fn text(
+    heap: Global,
+    answer: Result<Quote, Fault>,
+    tables: &Tables,
+) -> Result<String, AllocError>
+    ensures { IfOk result (λ s. string_bytes s ≡ printed answer tables.now.values.items tables.now.remedies.items) }
 {
     match answer {
-        Ok(quote) => plan_text(heap, quote.conditions, quote.values, quote.remedies),
+        Ok(quote) => plan_text(
+            heap,
+            quote,
+            tables.values.as_slice(),
+            tables.remedies.as_slice(),
+        ),
         Err(fault) => fault_text(heap, &fault),
     }
 }

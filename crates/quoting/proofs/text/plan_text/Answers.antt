@@ -13,19 +13,20 @@ loop-i-init c = c.new-out.ensures.bytes
 
 pub loop-i-preserved : goal.loop-i-preserved
 loop-i-preserved c =
-    let k = c.args.conditions in
+    let k = c.args.quote.conditions in
     let vs : List ℤ = c.args.values.now in
     let rs : List ℕ = c.args.remedies.now in
+    let n = c.args.quote.entries in
     let m = length c.loop-i.yielded in
     let i = c.in-Some.i in
     let v = c.in-Some.field-0-1-0.now in
     let r = c.in-Some.field-0-1-1.now in
     let item : ℕ × (Bor ℤ × Bor ℕ) = (i, (c.in-Some.field-0-1-0, c.in-Some.field-0-1-1)) in
     let first = ap iter_rest c.zip.ensures.first ∙ c.iter.ensures.rest in
-    let items = yields_entries vs rs c.zip.result c.enumerate-i-items.result first c.zip.ensures.second.0 c.enumerate-i-items.ensures.source c.enumerate-i-items.ensures.count in
+    let items = yields_entries vs rs n c.zip.result c.take.result c.enumerate-i-items.result first c.zip.ensures.second.0 c.take.ensures.source c.take.ensures.count c.enumerate-i-items.ensures.source c.enumerate-i-items.ensures.count in
     let road = YieldsList-at c.into_iter-i-iterator.ensures.into_iter_gives items in
     let turn = YieldsList-turn road c.loop-i.yielded c.loop-i.i-iterator c.loop-i.yielded_by c.next.result c.next.new.self item c.in-Some.is c.next.ensures.steps in
-    let place = entry_at vs rs m (i, (v, r)) turn in
+    let place = entry_at vs rs n m (i, (v, r)) turn in
     let copied : SFits w64 c.in-Some.value = search rules in
     let value : SFits w64 v = subst (SFits w64) (sym c.in-Some.value-is) copied in
     let passed = to_z w64 (of_z w64 v) in
@@ -40,15 +41,15 @@ loop-i-preserved c =
 
 pub returns : goal.returns
 returns c =
-    let k = c.args.conditions in
+    let k = c.args.quote.conditions in
+    let n = c.args.quote.entries in
     let vs : List ℤ = c.args.values.now in
     let rs : List ℕ = c.args.remedies.now in
-    let n = length rs in
     let first = ap iter_rest c.zip.ensures.first ∙ c.iter.ensures.rest in
-    let items = yields_entries vs rs c.zip.result c.enumerate-i-items.result first c.zip.ensures.second.0 c.enumerate-i-items.ensures.source c.enumerate-i-items.ensures.count in
+    let items = yields_entries vs rs n c.zip.result c.take.result c.enumerate-i-items.result first c.zip.ensures.second.0 c.take.ensures.source c.take.ensures.count c.enumerate-i-items.ensures.source c.enumerate-i-items.ensures.count in
     let road = YieldsList-at c.into_iter-i-iterator.ensures.into_iter_gives items in
     let end = YieldsList-end road c.loop-i.yielded c.loop-i.i-iterator c.loop-i.yielded_by c.next.result c.next.new.self c.in-None.is c.next.ensures.steps in
-    let all : length c.loop-i.yielded ≡ n = end.1 ∙ length-entries vs rs (search rules) in
+    let all : length c.loop-i.yielded ≡ n = end.1 ∙ length-entries vs rs n (search rules) (search rules) in
     c.in_ok-writeln-2.ensures.bytes
     ∙ ap (λ bs. string_bytes c.loop-i.out ++ bs) (count_printed n (search rules))
     ∙ ap (λ bs. bs ++ (84 ∷ 9 ∷ (numeral n ++ (10 ∷ [])))) (c.loop-i.invariant ∙ ap (plan_lines k vs rs) all)
