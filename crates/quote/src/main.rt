@@ -6,9 +6,9 @@ use quoting::tables::Tables;
 use quoting::text::text;
 use std::io::{Read, Write};
 
-fn run(rt: &HostRuntime) -> anyhow::Result<()> {
+fn main(rt: HostRuntime) -> anyhow::Result<()> {
     let heap = rt.alloc();
-    let mut input = Vec::new(heap);
+    let mut input = Vec::with_capacity(heap, LONGEST + 1)?;
     // One byte more than the limit shows that there are too many.
     rt.stdin().take(LONGEST as u64 + 1).read_to_end(&mut input)?;
     let mut tables = Tables::new(heap)?;
@@ -16,8 +16,4 @@ fn run(rt: &HostRuntime) -> anyhow::Result<()> {
     let printed = text(heap, answer, &tables)?;
     rt.stdout().write_all(printed.as_bytes())?;
     Ok(())
-}
-
-fn main(rt: HostRuntime) -> anyhow::Result<()> {
-    run(&rt)
 }

@@ -10,7 +10,8 @@ const CONDITIONS: usize = 32;
 
 const VISITS: usize = 48;
 
-// Room for 2,048 records and 32 worths, and for the values and remedies of 48 visits in 32 conditions.
+// Room for 2,048 records and 32 worths, for the remedies of 48 visits in 32 conditions, and for their values,
+// with a row more for 0 visits.
 #[derive(Drop)]
 pub struct Tables {
     pub(crate) records: Vec<Record>,
@@ -23,7 +24,8 @@ pub struct Tables {
     ghost all_remedies: { vec_len remedies ≡ 1536 },
 }
 
-// A plan that lies in the tables: so many conditions, so many entries in order of visit, then condition.
+// A plan that lies in the tables: so many conditions, so many entries in order of visit, then condition. Slices of the
+// tables would do as well, but a contract could not say then which tables they are of.
 #[derive(Clone, Copy)]
 pub struct Quote {
     pub(crate) conditions: usize,

@@ -16,14 +16,14 @@ fn agrees(rt: &HostRuntime, tables: &mut Tables, name: &str) -> anyhow::Result<b
     Ok(printed.as_bytes() == expected.as_slice())
 }
 
-fn run(rt: &HostRuntime) -> anyhow::Result<()> {
+fn main(rt: HostRuntime) -> anyhow::Result<()> {
     let mut tables = Tables::new(rt.alloc())?;
     let mut all: usize = 0;
     let mut agreed: usize = 0;
     for line in rt.lines(rt.alloc()) {
         let name = line?;
         all = all.saturating_add(1);
-        if agrees(rt, &mut tables, name.as_str())? {
+        if agrees(&rt, &mut tables, name.as_str())? {
             agreed = agreed.saturating_add(1);
         } else {
             println!(rt; "{name} differs")?;
@@ -31,8 +31,4 @@ fn run(rt: &HostRuntime) -> anyhow::Result<()> {
     }
     println!(rt; "{agreed} of {all} agree")?;
     Ok(())
-}
-
-fn main(rt: HostRuntime) -> anyhow::Result<()> {
-    run(&rt)
 }
