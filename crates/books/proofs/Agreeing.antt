@@ -4,13 +4,14 @@ use mathlib.Core.Path.{fun_ext}
 use lib.Arith.{digits_lt}
 use Rattle.std.specs.List.{All}
 use Rattle.std.proofs.lemmas.Bool.{cond-true, cond-false, and_parts, ltb-true, cases_lt}
+use Rattle.std.proofs.lemmas.List.Elements.{All-nil, All-cons}
 use Rattle.books.specs.declared.record.Record.{Record}
 use Rattle.books.specs.Alike.{inside, some_above, alike}
 use Rattle.books.specs.Entries.{no_record}
 use Rattle.books.specs.Listed.{about, listed}
 use Rattle.books.specs.Tables.{spot}
 use Rattle.books.proofs.Lookups.{about_not, about_from}
-use Rattle.books.proofs.Turns.{all_none, all_one, all_turn}
+use Rattle.books.proofs.Turns.{all_turn}
 use Rattle.books.specs.Kinds.{in_turn, positive, positive_records, KindsAgree}
 
 -- none of the list is about these
@@ -39,8 +40,8 @@ listed_turn s x j (suc n) i f l h =
     (cases_lt i n)
 
 away_positive : (s x j s' x' j' n : ℕ) (z : ℤ) → ((s' ≡ s) × (x' ≡ x) × (j' ≡ j) → ⊥) → Away s x j (positive s' x' j' n z)
-away_positive s x j s' x' j' zero z h = all_none _
-away_positive s x j s' x' j' (suc n) z h = let e : Record = record { condition = s'; remedy = x'; next = j'; share = suc n; amount = z } in all_one (λ d. about d s x j ≡ false) e (about_not e s x j h)
+away_positive s x j s' x' j' zero z h = All-nil _
+away_positive s x j s' x' j' (suc n) z h = let e : Record = record { condition = s'; remedy = x'; next = j'; share = suc n; amount = z } in All-cons (λ d. about d s x j ≡ false) e [] (about_not e s x j h) (All-nil _)
 
 positive_share : (s x j n : ℕ) (z : ℤ) → (listed (positive s x j n z) s x j).share ≡ n
 positive_share s x j zero z = refl

@@ -8,9 +8,13 @@ use Rattle.books.specs.declared.record.Record.{Record}
 use Rattle.books.specs.Entries.{RecordFits, Rising, AllPlaced, StandBefore, rank, key, no_record, KeysRise}
 use Rattle.books.specs.Making.{Entered}
 
-rising_key : (c r parts : ℕ) (d e : Record) → c ≤ 32 → r ≤ 8 → RecordFits c r parts d → RecordFits c r parts e → Rising d e → key d < key e
-rising_key c r parts d e cl rl f g =
-    ⊎_elim (λ l. omega arith) (λ p. let same : d.condition ≡ e.condition = p.0 in ⊎_elim (λ l. omega arith) (λ q. omega arith) p.1)
+-- the order of records is that of their keys, there and back
+module _ (c r parts : ℕ) (d e : Record) (cl : c ≤ 32) (rl : r ≤ 8) (f : RecordFits c r parts d) (g : RecordFits c r parts e) where
+  rising_key : Rising d e → key d < key e
+  rising_key h = grind arith
+
+  pub key_rising : key d < key e → Rising d e
+  key_rising l = grind arith
 
 pub keys_rise : (c r parts : ℕ) (es : List Record) → c ≤ 32 → r ≤ 8 → ((i : ℕ) → i < length es → Entered c r parts es i) → KeysRise es
 keys_rise c r parts es cl rl all i zero l m = absurd (omega arith)

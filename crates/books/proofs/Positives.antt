@@ -1,14 +1,15 @@
 -- The records of a table's positive shares are in order and within the limits.
-use Rattle.std.proofs.Common.{◌≡◌, ℕ, zero, suc, ◌<◌, ◌≤◌, List, [], ◌∷◌, ◌++◌, length, get_or, ℤ, refl, subst, inl, inr, ⊎_elim, arith}
+use Rattle.std.proofs.Common.{ℕ, zero, suc, ◌<◌, ◌≤◌, List, [], ◌∷◌, ◌++◌, length, get_or, ℤ, refl, subst, inl, inr, arith}
 use lib.Arith.{digits_lt}
 use Rattle.std.specs.List.{All}
-use Rattle.std.proofs.lemmas.Bool.{cases_order}
+use Rattle.std.proofs.lemmas.List.Elements.{All-nil, All-cons}
 use Rattle.books.specs.declared.record.Record.{Record}
 use Rattle.books.specs.Entries.{SmallMoney, RecordFits, Rising, no_record, rank, key}
 use Rattle.books.specs.Tables.{spot}
 use Rattle.books.specs.Kinds.{in_turn, positive, positive_records, PositivesMakeAList}
+use Rattle.books.proofs.Orders.{key_rising}
 use Rattle.books.proofs.Places.{in_first, in_third}
-use Rattle.books.proofs.Turns.{all_none, all_one, all_turn}
+use Rattle.books.proofs.Turns.{all_turn}
 
 abbrev AllFit : (c r parts : ℕ) → List Record → Type 0
 AllFit c r parts = All (RecordFits c r parts)
@@ -41,26 +42,13 @@ between_step lo hi (e ∷ (d ∷ es)) zero b l = b.1.0
 between_step lo hi (e ∷ (d ∷ es)) (suc k) b l = between_step (suc (key e)) hi (d ∷ es) k b.1 (omega arith)
 
 positive_fits : (c r parts s x j n : ℕ) (z : ℤ) → s < c → x < r → j < c → n ≤ parts → SmallMoney z → AllFit c r parts (positive s x j n z)
-positive_fits c r parts s x j zero z a b d l m = all_none _
+positive_fits c r parts s x j zero z a b d l m = All-nil _
 positive_fits c r parts s x j (suc n) z a b d l m =
-    all_one (RecordFits c r parts) (record { condition = s; remedy = x; next = j; share = suc n; amount = z }) (record { some_condition = a; some_remedy = b; some_next = d; some_share = omega arith; few_share = l; small_amount = m })
+    All-cons (RecordFits c r parts) (record { condition = s; remedy = x; next = j; share = suc n; amount = z }) [] (record { some_condition = a; some_remedy = b; some_next = d; some_share = omega arith; few_share = l; small_amount = m }) (All-nil (RecordFits c r parts))
 
 positive_between : (s x j n : ℕ) (z : ℤ) → Between (rank s x j) (rank s x (suc j)) (positive s x j n z)
 positive_between s x j zero z = omega arith
 positive_between s x j (suc n) z = (omega arith, omega arith)
-
-key_rising : (c r parts : ℕ) (d e : Record) → c ≤ 32 → r ≤ 8 → RecordFits c r parts d → RecordFits c r parts e → key d < key e → Rising d e
-key_rising c r parts d e cl rl f g l =
-    ⊎_elim
-    (λ (p : d.condition ≡ e.condition). inr (
-      p,
-      ⊎_elim
-          (λ (q : d.remedy ≡ e.remedy). inr (q, omega arith))
-          (⊎_elim (λ q. inl q) (λ (q : e.remedy < d.remedy). absurd (omega arith)))
-          (cases_order d.remedy e.remedy),
-    ))
-    (⊎_elim (λ p. inl p) (λ (p : e.condition < d.condition). absurd (omega arith)))
-    (cases_order d.condition e.condition)
 
 pub positives_make_a_list : PositivesMakeAList
 positives_make_a_list c r parts shares amounts worths (shaped, fits) =

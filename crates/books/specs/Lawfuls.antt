@@ -1,9 +1,11 @@
 -- Books of lists and of tables keep what is asked of every book.
-use Rattle.std.specs.Prelude.{◌≡◌, ℕ, suc, ◌<◌, ◌≤◌, Bool, true, false, cond, ◌&&◌, T, List, [], ◌∷◌, ℤ, pos, nat_le, nat_lt, refl}
-use Rattle.std.proofs.Common.{arith, leb→le, ltb→lt}
+use Rattle.std.specs.Prelude.{◌≡◌, ℕ, suc, ◌<◌, ◌≤◌, true, ◌&&◌, List, [], ◌∷◌, ℤ, pos, nat_le, nat_lt}
+use Rattle.std.proofs.Common.{arith}
 use Rattle.std.proofs.Math.Arith.{digits_lt}
+use Rattle.std.proofs.lemmas.Bool.{and_parts, cond_both, leb-true, ltb-true}
 use Rattle.std.proofs.lemmas.Int.{ints}
 use Rattle.model.specs.Model.{Offers, offers, Money, Inside, Lawful}
+use Rattle.model.specs.Passed.{is_true, taken, some_of, nothing}
 use Rattle.books.specs.declared.record.Record.{Record}
 use Rattle.books.specs.declared.list.ListBook.{ListBook}
 use Rattle.books.specs.declared.table.TableBook.{TableBook}
@@ -13,42 +15,20 @@ use Rattle.books.specs.Listed.{about, listed}
 use Rattle.books.specs.Means.{list_means, table_means}
 use Rattle.books.specs.Tables.{spot}
 
-both : (a b : Bool) → T (a && b) → T a × T b
-both true true h = (tt, tt)
-both true false h = absurd h
-both false true h = absurd h
-both false false h = absurd h
-
-kept : {A : Type 0} (b : Bool) (x y : A) (P : A → Type 0) → (T b → P x) → P y → P (cond b x y)
-kept true x y P f g = f tt
-kept false x y P f g = g
-
--- a number that differs from the other arm's
-taken : {A : Type 0} (b : Bool) (x y : A) → ¬ (cond b x y ≡ y) → T b
-taken true x y h = tt
-taken false x y h = absurd (h refl)
-
-some_of : (b : Bool) (n : ℕ) → 0 < cond b n 0 → T b
-some_of true n h = tt
-some_of false n h = absurd (omega arith)
-
-nothing : Money (pos 0)
-nothing = record { low = omega (arith, ints); high = omega (arith, ints) }
-
 small_money : (z : ℤ) → SmallMoney z → Money z
 small_money z h = record { low = omega (arith, ints); high = omega (arith, ints) }
 
-inside_so : (o : Offers) (n s x : ℕ) → T (inside o.conditions o.remedies n s x) → Inside o n s x
+pub inside_so : (o : Offers) (n s x : ℕ) → inside o.conditions o.remedies n s x ≡ true → Inside o n s x
 inside_so o n s x h =
-    let d = both _ (nat_lt x o.remedies) h in
-    let e = both _ (nat_lt s o.conditions) d.0 in
-    let f = both (nat_le 1 n) (nat_le n 48) e.0 in
-    record { first_visit = leb→le 1 n f.0; last_visit = leb→le n 48 f.1; some_condition = ltb→lt s o.conditions e.1; some_remedy = ltb→lt x o.remedies d.1 }
+    let d = and_parts _ (nat_lt x o.remedies) h in
+    let e = and_parts _ (nat_lt s o.conditions) d.0 in
+    let f = and_parts (nat_le 1 n) (nat_le n 48) e.0 in
+    record { first_visit = leb-true 1 n f.0; last_visit = leb-true n 48 f.1; some_condition = ltb-true s o.conditions e.1; some_remedy = ltb-true x o.remedies d.1 }
 
 module _ (c r parts : ℕ) (share : ℕ → ℕ → ℕ → ℕ) (amount : ℕ → ℕ → ℕ → ℤ) (worth : ℕ → ℤ) (sizes : SizesFit c r parts)
     (shares : (s x j : ℕ) → s < c → x < r → j < c → share s x j ≤ parts) (amounts : (s x j : ℕ) → s < c → x < r → j < c → SmallMoney (amount s x j)) (worths : (s : ℕ) → s < c → SmallMoney (worth s)) where
-  five : (n s x j : ℕ) → T (inside c r n s x && nat_lt j c) → Inside (offers (alike c r parts share amount worth)) n s x × (j < c)
-  five n s x j h = let d = both _ (nat_lt j c) h in (inside_so (offers (alike c r parts share amount worth)) n s x d.0, ltb→lt j c d.1)
+  five : (n s x j : ℕ) → (inside c r n s x && nat_lt j c) ≡ true → Inside (offers (alike c r parts share amount worth)) n s x × (j < c)
+  five n s x j h = let d = and_parts _ (nat_lt j c) h in (inside_so (offers (alike c r parts share amount worth)) n s x d.0, ltb-true j c d.1)
 
   alike_lawful : Lawful (alike c r parts share amount worth)
   alike_lawful = record {
@@ -58,13 +38,13 @@ module _ (c r parts : ℕ) (share : ℕ → ℕ → ℕ → ℕ) (amount : ℕ �
     few_remedies = sizes.few_remedies;
     some_parts = sizes.some_parts;
     few_parts = sizes.few_parts;
-    share_fits = λ n s x j. kept (inside c r n s x && nat_lt j c) (share s x j) 0 (λ z. z ≤ parts) (λ h. let i = five n s x j h in shares s x j i.0.some_condition i.0.some_remedy i.1) (omega arith);
-    amount_fits = λ n s x j. kept (inside c r n s x && nat_lt j c) (amount s x j) (pos 0) Money (λ h. let i = five n s x j h in small_money _ (amounts s x j i.0.some_condition i.0.some_remedy i.1)) nothing;
-    worth_fits = λ s. kept (nat_lt s c) (worth s) (pos 0) Money (λ h. small_money _ (worths s (ltb→lt s c h))) nothing;
-    offered_inside = λ n s x h. inside_so (offers (alike c r parts share amount worth)) n s x (both _ (some_above (share s x) c) h).0;
-    share_inside = λ n s x j h. five n s x j (some_of _ (share s x j) h);
-    amount_inside = λ n s x j h. five n s x j (taken _ (amount s x j) (pos 0) h);
-    worth_inside = λ s h. ltb→lt s c (taken (nat_lt s c) (worth s) (pos 0) h);
+    share_fits = λ n s x j. cond_both (inside c r n s x && nat_lt j c) (share s x j) 0 (λ z. z ≤ parts) (λ h. let i = five n s x j h in shares s x j i.0.some_condition i.0.some_remedy i.1) (λ _. omega arith);
+    amount_fits = λ n s x j. cond_both (inside c r n s x && nat_lt j c) (amount s x j) (pos 0) Money (λ h. let i = five n s x j h in small_money _ (amounts s x j i.0.some_condition i.0.some_remedy i.1)) (λ _. nothing);
+    worth_fits = λ s. cond_both (nat_lt s c) (worth s) (pos 0) Money (λ h. small_money _ (worths s (ltb-true s c h))) (λ _. nothing);
+    offered_inside = λ n s x h. inside_so (offers (alike c r parts share amount worth)) n s x (and_parts _ (some_above (share s x) c) (is_true _ h)).0;
+    share_inside = λ n s x j h. five n s x j (is_true _ (some_of _ (share s x j) h));
+    amount_inside = λ n s x j h. five n s x j (is_true _ (taken _ (amount s x j) (pos 0) h));
+    worth_inside = λ s h. ltb-true s c (is_true _ (taken (nat_lt s c) (worth s) (pos 0) h));
   }
 
 pub table_lawful : (b : TableBook) → Lawful (table_means b)
@@ -79,7 +59,7 @@ listed_fits parts [] s x j each = (omega arith, omega arith)
 listed_fits parts (e ∷ es) s x j each =
     let rest = listed_fits parts es s x j (λ i l. each (suc i) (omega arith)) in
     let here = each 0 (omega arith) in
-    kept (about e s x j) e (listed es s x j) (λ f. (f.share ≤ parts) × SmallMoney f.amount) (λ t. (here.1, here.2)) rest
+    cond_both (about e s x j) e (listed es s x j) (λ f. (f.share ≤ parts) × SmallMoney f.amount) (λ _. (here.1, here.2)) (λ _. rest)
 
 pub list_lawful : (b : ListBook) → Lawful (list_means b)
 list_lawful b =
