@@ -1,5 +1,5 @@
 -- Books of lists and of tables keep what is asked of every book.
-use Rattle.std.specs.Prelude.{◌≡◌, ℕ, suc, ◌<◌, ◌≤◌, true, ◌&&◌, List, [], ◌∷◌, ℤ, pos, nat_le, nat_lt}
+use Rattle.std.specs.Prelude.{◌≡◌, ℕ, suc, ◌*◌, ◌<◌, ◌≤◌, true, ◌&&◌, List, [], ◌∷◌, length, ℤ, pos, nat_le, nat_lt}
 use Rattle.std.proofs.Common.{arith}
 use Rattle.std.proofs.Math.Arith.{digits_lt}
 use Rattle.std.proofs.lemmas.Bool.{and_parts, cond_both, leb-true, ltb-true}
@@ -10,10 +10,10 @@ use Rattle.books.specs.declared.record.Record.{Record}
 use Rattle.books.specs.declared.list.ListBook.{ListBook}
 use Rattle.books.specs.declared.table.TableBook.{TableBook}
 use Rattle.books.specs.Alike.{SizesFit, inside, some_above, alike}
-use Rattle.books.specs.Entries.{SmallMoney, AllValued}
-use Rattle.books.specs.Listed.{about, listed}
+use Rattle.books.specs.Entries.{SmallMoney, AllSmall, SharesFit, AllValued}
+use Rattle.books.specs.Listed.{about, listed, list_model}
 use Rattle.books.specs.Means.{list_means, table_means}
-use Rattle.books.specs.Tables.{spot}
+use Rattle.books.specs.Tables.{spot, table_model}
 
 small_money : (z : ℤ) → SmallMoney z → Money z
 small_money z h = record { low = omega (arith, ints); high = omega (arith, ints) }
@@ -47,12 +47,16 @@ module _ (c r parts : ℕ) (share : ℕ → ℕ → ℕ → ℕ) (amount : ℕ �
     worth_inside = λ s h. ltb-true s c (is_true _ (taken (nat_lt s c) (worth s) (pos 0) h));
   }
 
-pub table_lawful : (b : TableBook) → Lawful (table_means b)
-table_lawful b =
-    alike_lawful b.sizes.conditions b.sizes.remedies b.sizes.parts _ _ _ b.sizes.fit
-    (λ s x j k l m. let q = digits_lt (digits_lt k l) m in b.shares_fit (spot b.sizes.conditions b.sizes.remedies s x j) (omega (arith, b.shares_long)))
-    (λ s x j k l m. let q = digits_lt (digits_lt k l) m in b.amounts_small (spot b.sizes.conditions b.sizes.remedies s x j) (omega (arith, b.amounts_long)))
-    (λ s k. b.worths_small s (omega (arith, b.worths_long)))
+pub table_lawful : (c r parts : ℕ) (shares : List ℕ) (amounts worths : List ℤ) → SizesFit c r parts → length shares ≡ c * r * c → length amounts ≡ c * r * c → length worths ≡ c → SharesFit parts shares → AllSmall amounts → AllSmall worths → Lawful (table_model c r parts shares amounts worths)
+table_lawful c r parts shares amounts worths sizes long_s long_a long_w fit small worth =
+    alike_lawful c r parts _ _ _ sizes
+    (λ s x j a b d. let l = digits_lt (digits_lt a b) d in fit (spot c r s x j) (omega arith))
+    (λ s x j a b d. let l = digits_lt (digits_lt a b) d in small (spot c r s x j) (omega arith))
+    (λ s a. worth s (omega arith))
+
+-- and so a table book is lawful
+pub table_book_lawful : (b : TableBook) → Lawful (table_means b)
+table_book_lawful b = table_lawful b.sizes.conditions b.sizes.remedies b.sizes.parts b.shares.now b.amounts.now b.worths.now b.sizes.fit b.shares_long b.amounts_long b.worths_long b.shares_fit b.amounts_small b.worths_small
 
 listed_fits : (parts : ℕ) (es : List Record) (s x j : ℕ) → AllValued parts es → ((listed es s x j).share ≤ parts) × SmallMoney (listed es s x j).amount
 listed_fits parts [] s x j each = (omega arith, omega arith)
@@ -61,9 +65,13 @@ listed_fits parts (e ∷ es) s x j each =
     let here = each 0 (omega arith) in
     cond_both (about e s x j) e (listed es s x j) (λ f. (f.share ≤ parts) × SmallMoney f.amount) (λ _. (here.1, here.2)) (λ _. rest)
 
-pub list_lawful : (b : ListBook) → Lawful (list_means b)
-list_lawful b =
-    alike_lawful b.sizes.conditions b.sizes.remedies b.sizes.parts _ _ _ b.sizes.fit
-    (λ s x j k l m. (listed_fits b.sizes.parts b.listing.records.now s x j b.records_valued).0)
-    (λ s x j k l m. (listed_fits b.sizes.parts b.listing.records.now s x j b.records_valued).1)
-    (λ s k. b.worths_small s (omega (arith, b.worths_long)))
+pub list_lawful : (c r parts : ℕ) (es : List Record) (worths : List ℤ) → SizesFit c r parts → length worths ≡ c → AllValued parts es → AllSmall worths → Lawful (list_model c r parts es worths)
+list_lawful c r parts es worths sizes long fit small =
+    alike_lawful c r parts _ _ _ sizes
+    (λ s x j a b d. (listed_fits parts es s x j fit).0)
+    (λ s x j a b d. (listed_fits parts es s x j fit).1)
+    (λ s a. small s (omega arith))
+
+-- and so a list book is lawful
+pub list_book_lawful : (b : ListBook) → Lawful (list_means b)
+list_book_lawful b = list_lawful b.sizes.conditions b.sizes.remedies b.sizes.parts b.listing.records.now b.worths.now b.sizes.fit b.worths_long b.records_valued b.worths_small

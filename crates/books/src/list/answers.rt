@@ -3,7 +3,7 @@ ghost use Rattle.std.specs.Prelude.{◌≡◌, ◌<◌, pos, MatchOption};
 ghost use Rattle.books.specs.Alike.{some_above};
 ghost use Rattle.books.specs.Entries.{IsRow};
 ghost use Rattle.books.specs.Listed.{listed};
-ghost use Rattle.books.specs.Lawfuls.{list_lawful};
+ghost use Rattle.books.specs.Lawfuls.{list_book_lawful};
 ghost use Rattle.books.specs.Means.{list_means};
 
 use super::ListBook;
@@ -71,7 +71,7 @@ impl<'a> ListBook<'a> {
 impl Book for ListBook<'_> {
     ghost model = { list_means };
 
-    ghost lawful = { list_lawful };
+    ghost lawful = { list_book_lawful };
 
     fn conditions(&self) -> usize {
         self.sizes.conditions

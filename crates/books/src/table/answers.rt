@@ -1,7 +1,7 @@
 // What a table book answers.
 ghost use Rattle.std.specs.Prelude.{◌≡◌, ◌+◌, ◌*◌, ◌<◌, ◌≤◌, ◌&&◌, true, false, IfNone, IfSome, nat_lt, slice_index};
 ghost use Rattle.books.specs.Alike.{inside, some_above};
-ghost use Rattle.books.specs.Lawfuls.{table_lawful};
+ghost use Rattle.books.specs.Lawfuls.{table_book_lawful};
 ghost use Rattle.books.specs.Means.{table_means};
 ghost use Rattle.books.specs.Tables.{spot};
 
@@ -46,7 +46,7 @@ impl TableBook<'_> {
 impl Book for TableBook<'_> {
     ghost model = { table_means };
 
-    ghost lawful = { table_lawful };
+    ghost lawful = { table_book_lawful };
 
     fn conditions(&self) -> usize {
         self.sizes.conditions
