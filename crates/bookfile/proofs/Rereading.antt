@@ -2,10 +2,12 @@
 use Rattle.std.proofs.Common.{◌≡◌, ℕ, suc, ◌+◌, ◌-◌, ◌<◌, ◌≤◌, true, cond, eqb, ltb, List, [], ◌∷◌, ◌++◌, length, get_or, ℤ, pos, sym, refl, ap, ◌∙◌, subst, append_assoc, append-nil, arith, lit≤, length-append}
 use lib.ListN.{get_or-append}
 use lib.Seq.{get_or-append_seam}
+use Rattle.std.specs.List as lists
+use Rattle.std.proofs.lemmas.List.Elements.{All-head, All-tail}
 use Rattle.std.proofs.lemmas.Bool.{eq-eqb, cond_both, cond-true, le-leb, lt-ltb, lt-leb}
 use Rattle.books.specs.declared.record.Record.{Record}
 use Rattle.books.specs.Alike.{SizesFit}
-use Rattle.books.specs.Entries.{SmallMoney, AllSmall, RecordFits, Rising, no_record}
+use Rattle.books.specs.Entries.{SmallMoney, RecordFits, Rising, no_record}
 use Rattle.books.specs.Making.{Entered}
 use Rattle.fields.specs.Numerals.{Bytes}
 use Rattle.fields.specs.Lines.{joined, line}
@@ -61,14 +63,14 @@ module _ (m w : ℕ) where
     unfolding Each
     read_end es ws k all = ap (λ x. and_then x (enter_line m w (middle (book c r p es ws)) k)) (line_good k 69 (may_stand (middle (book c r p es ws))) (form (middle (book c r p es ws))) [] [] (lit≤ tt) tt (ap (λ x. is_letter (cond x (69 ∷ []) (cond (eqb (length ws) 0) (82 ∷ 67 ∷ []) (67 ∷ []))) (69 ∷ [])) (le-leb c (length ws) all)) refl none)
 
-    read_worths : (es : List Record) (zs ws : List ℤ) (k : ℕ) (rest : Bytes) → AllSmall zs → length ws + length zs ≤ c → length ws + length zs ≤ w → read_on m w (middle (book c r p es ws)) k (worth_lines (length ws) zs ++ rest) ≡ read_on m w (middle (book c r p es (ws ++ zs))) (k + length zs) rest
+    read_worths : (es : List Record) (zs ws : List ℤ) (k : ℕ) (rest : Bytes) → lists.All SmallMoney zs → length ws + length zs ≤ c → length ws + length zs ≤ w → read_on m w (middle (book c r p es ws)) k (worth_lines (length ws) zs ++ rest) ≡ read_on m w (middle (book c r p es (ws ++ zs))) (k + length zs) rest
     read_worths es [] ws k rest a n room = let z : k ≡ k + 0 = omega arith in ap (λ x. read_on m w (middle (book c r p es x)) k rest) (sym (append-nil ws)) ∙ ap (λ x. read_on m w (middle (book c r p es (ws ++ []))) x rest) z
     read_worths es (z ∷ zs) ws k rest a n room =
         let len : length (ws ++ (z ∷ [])) ≡ suc (length ws) = simp length-append (omega arith) in
         let n' : length ws + suc (length zs) ≤ c = n in
         let room' : length ws + suc (length zs) ≤ w = room in
         let on : suc k + length zs ≡ k + suc (length zs) = omega arith in
-        ap (read_on m w (middle (book c r p es ws)) k) (append_assoc (line 67 (worth_fields (length ws) z)) (worth_lines (suc (length ws)) zs) rest) ∙ (step (middle (book c r p es ws)) (middle (book c r p es (ws ++ (z ∷ [])))) k 67 (worth_fields (length ws) z) (worth_lines (suc (length ws)) zs ++ rest) (lit≤ tt) (worth_dark (length ws) z) (read_worth es ws k z (a 0 (omega arith)) (omega arith) (omega arith)) ∙ (ap (λ x. read_on m w (middle (book c r p es (ws ++ (z ∷ [])))) (suc k) (worth_lines x zs ++ rest)) (sym len) ∙ (read_worths es zs (ws ++ (z ∷ [])) (suc k) rest (λ i q. a (suc i) (omega arith)) (omega arith) (omega arith) ∙ (ap (λ x. read_on m w (middle (book c r p es x)) (suc k + length zs) rest) (append_assoc ws (z ∷ []) zs) ∙ ap (λ x. read_on m w (middle (book c r p es (ws ++ (z ∷ zs)))) x rest) on))))
+        ap (read_on m w (middle (book c r p es ws)) k) (append_assoc (line 67 (worth_fields (length ws) z)) (worth_lines (suc (length ws)) zs) rest) ∙ (step (middle (book c r p es ws)) (middle (book c r p es (ws ++ (z ∷ [])))) k 67 (worth_fields (length ws) z) (worth_lines (suc (length ws)) zs ++ rest) (lit≤ tt) (worth_dark (length ws) z) (read_worth es ws k z (All-head SmallMoney z zs a) (omega arith) (omega arith)) ∙ (ap (λ x. read_on m w (middle (book c r p es (ws ++ (z ∷ [])))) (suc k) (worth_lines x zs ++ rest)) (sym len) ∙ (read_worths es zs (ws ++ (z ∷ [])) (suc k) rest (All-tail SmallMoney z zs a) (omega arith) (omega arith) ∙ (ap (λ x. read_on m w (middle (book c r p es x)) (suc k + length zs) rest) (append_assoc ws (z ∷ []) zs) ∙ ap (λ x. read_on m w (middle (book c r p es (ws ++ (z ∷ zs)))) x rest) on))))
 
     Follows : List Record → List Record → Type 0
     Follows done [] = Unit {0}
