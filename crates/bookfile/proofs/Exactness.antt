@@ -1,4 +1,5 @@
 -- Reading answers exactly what the format's own terms say.
+use Rattle.std.proofs.lemmas.List.Elements.{All-from_get_or}
 use Rattle.std.proofs.Common.{◌≡◌, ℕ, suc, ◌+◌, eqb, ltb, ◌⊎◌, List, [], ◌∷◌, length, get_or, ℤ, pos, sym, refl, ap, ◌∙◌, subst, inl, inr, ⊎_elim, arith}
 use Rattle.std.proofs.lemmas.Bool.{le-ltb, cond_both, cond-true, cond-false, cases_eq, false_from_ne_true}
 use Rattle.fields.specs.Numerals.{Bytes}
@@ -6,8 +7,7 @@ use Rattle.fields.specs.Lines.{joined, split, Starts}
 use Rattle.fields.specs.Kinds.{Misread}
 use Rattle.fields.specs.Checking.{Reported, reported, and_then, size_at}
 use Rattle.fields.specs.Checking.Checked.{good, faulty}
-use Rattle.fields.proofs.Digits.{all_index, index_all}
-use Rattle.fields.proofs.Splitting.{joined_split, split_clear, split_none, started}
+use Rattle.fields.proofs.Splitting.{Other, joined_split, split_clear, split_none, started}
 use Rattle.fields.proofs.Faultless.{good_same, spelled}
 use Rattle.fields.proofs.Faulted.{line_faults_are_exact_lem}
 use Rattle.fields.proofs.Passing.{line_passes, misread_line}
@@ -26,16 +26,16 @@ module _ (m w : ℕ) where
   -- a line that is misread
   misread_first : (k : ℕ) (bs : Bytes) (n i : ℕ) → Misread (may_stand begin) (form begin) bs n i → read_on m w begin k bs ≡ faulty (reported n k i)
   misread_first k bs n i h = ⊎_elim
-      (λ a. ap (λ p. read_lines m w begin k p.0 p.1) (split_none 10 bs (index_all (λ x. ¬ (x ≡ 10)) bs a.0)) ∙ (ap (λ x. faulty (reported x k 0)) (sym a.1) ∙ ap (λ x. faulty (reported n k x)) (sym a.2)))
+      (λ a. ap (λ p. read_lines m w begin k p.0 p.1) (split_none 10 bs (All-from_get_or (Other 10) bs 0 a.0)) ∙ (ap (λ x. faulty (reported x k 0)) (sym a.1) ∙ ap (λ x. faulty (reported n k x)) (sym a.2)))
       (λ a. let l = a.0 in let onw = a.1 in
-      ap (read_on m w begin k) a.3 ∙ (read_on_line m w begin k l onw a.2 ∙ ap (λ x. and_then (and_then x (enter_line m w begin k)) (λ t. read_on m w t (suc k) onw)) ((line_faults_are_exact_lem k (may_stand begin) (form begin) l onw (reported n k i) (all_index (λ x. ¬ (x ≡ 10)) l a.2)).1 (n, i, refl, subst (λ x. Misread (may_stand begin) (form begin) x n i) a.3 h))))
+      ap (read_on m w begin k) a.3 ∙ (read_on_line m w begin k l onw a.2 ∙ ap (λ x. and_then (and_then x (enter_line m w begin k)) (λ t. read_on m w t (suc k) onw)) ((line_faults_are_exact_lem k (may_stand begin) (form begin) l onw (reported n k i) (λ j q. a.2 j 0 q)).1 (n, i, refl, subst (λ x. Misread (may_stand begin) (form begin) x n i) a.3 h))))
       (misread_line (may_stand begin) (form begin) bs n i h)
 
   misread_later : (b : WrittenBook) (k : ℕ) (bs : Bytes) (n i : ℕ) → Misread (may_stand (middle b)) (form (middle b)) bs n i → read_on m w (middle b) k bs ≡ faulty (reported n k i)
   misread_later b k bs n i h = ⊎_elim
-      (λ a. ap (λ p. read_lines m w (middle b) k p.0 p.1) (split_none 10 bs (index_all (λ x. ¬ (x ≡ 10)) bs a.0)) ∙ (ap (λ x. faulty (reported x k 0)) (sym a.1) ∙ ap (λ x. faulty (reported n k x)) (sym a.2)))
+      (λ a. ap (λ p. read_lines m w (middle b) k p.0 p.1) (split_none 10 bs (All-from_get_or (Other 10) bs 0 a.0)) ∙ (ap (λ x. faulty (reported x k 0)) (sym a.1) ∙ ap (λ x. faulty (reported n k x)) (sym a.2)))
       (λ a. let l = a.0 in let onw = a.1 in
-      ap (read_on m w (middle b) k) a.3 ∙ (read_on_line m w (middle b) k l onw a.2 ∙ ap (λ x. and_then (and_then x (enter_line m w (middle b) k)) (λ t. read_on m w t (suc k) onw)) ((line_faults_are_exact_lem k (may_stand (middle b)) (form (middle b)) l onw (reported n k i) (all_index (λ x. ¬ (x ≡ 10)) l a.2)).1 (n, i, refl, subst (λ x. Misread (may_stand (middle b)) (form (middle b)) x n i) a.3 h))))
+      ap (read_on m w (middle b) k) a.3 ∙ (read_on_line m w (middle b) k l onw a.2 ∙ ap (λ x. and_then (and_then x (enter_line m w (middle b) k)) (λ t. read_on m w t (suc k) onw)) ((line_faults_are_exact_lem k (may_stand (middle b)) (form (middle b)) l onw (reported n k i) (λ j q. a.2 j 0 q)).1 (n, i, refl, subst (λ x. Misread (may_stand (middle b)) (form (middle b)) x n i) a.3 h))))
       (misread_line (may_stand (middle b)) (form (middle b)) bs n i h)
 
   -- a line with fields in order that is entered with a fault

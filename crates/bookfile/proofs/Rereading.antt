@@ -2,17 +2,18 @@
 use Rattle.std.proofs.Common.{◌≡◌, ℕ, suc, ◌+◌, ◌-◌, ◌<◌, ◌≤◌, true, cond, eqb, ltb, List, [], ◌∷◌, ◌++◌, length, get_or, ℤ, pos, sym, refl, ap, ◌∙◌, subst, append_assoc, append-nil, arith, lit≤, length-append}
 use lib.ListN.{get_or-append}
 use lib.Seq.{get_or-append_seam}
+use Rattle.std.specs.List.{All}
+use Rattle.std.proofs.lemmas.List.Elements.{All-from_recursion, All-nil, All-cons, All-head, All-tail, All-weaker}
 use Rattle.std.proofs.lemmas.Bool.{eq-eqb, cond_both, cond-true, le-leb, lt-ltb, lt-leb}
 use Rattle.books.specs.declared.record.Record.{Record}
 use Rattle.books.specs.Alike.{SizesFit}
-use Rattle.books.specs.Entries.{SmallMoney, AllSmall, RecordFits, Rising, no_record}
+use Rattle.books.specs.Entries.{SmallMoney, RecordFits, Rising, no_record}
 use Rattle.books.specs.Making.{Entered}
 use Rattle.fields.specs.Numerals.{Bytes}
 use Rattle.fields.specs.Lines.{joined, line}
 use Rattle.fields.specs.Checking.{and_then, is_letter}
 use Rattle.fields.specs.Checking.Checked.{good}
-use Rattle.fields.proofs.Digits.{All}
-use Rattle.fields.proofs.Splitting.{Each, each_map, split_line, joined_all}
+use Rattle.fields.proofs.Splitting.{Other, split_line, joined_all}
 use Rattle.fields.proofs.Faultless.{Dark, numeral_dark, signed_dark, check_number, check_signed, line_good}
 use Rattle.fields.proofs.Faultless.Passes.{none, one}
 use Rattle.bookfile.specs.File.{WrittenBook, State, size_fields, record_fields, worth_fields, record_lines, worth_lines, opening, render, line_count, may_stand, form}
@@ -24,26 +25,22 @@ use Rattle.bookfile.proofs.Standing.{SoundBook, above_last, sound_lawful}
 abbrev pub book : (c r p : ℕ) → List Record → List ℤ → WrittenBook
 book c r p es ws = record { conditions = c; remedies = r; parts = p; records = es; worths = ws }
 
-pub record_dark : (e : Record) → Each Dark (record_fields e)
-unfolding Each
-record_dark e = (numeral_dark e.condition, (numeral_dark e.remedy, (numeral_dark e.next, (numeral_dark e.share, (signed_dark e.amount, tt)))))
+pub record_dark : (e : Record) → All (All Dark) (record_fields e)
+record_dark e = All-from_recursion (All Dark) (record_fields e) (numeral_dark e.condition, (numeral_dark e.remedy, (numeral_dark e.next, (numeral_dark e.share, (signed_dark e.amount, tt)))))
 
-pub worth_dark : (s : ℕ) (z : ℤ) → Each Dark (worth_fields s z)
-unfolding Each
-worth_dark s z = (numeral_dark s, (signed_dark z, tt))
+pub worth_dark : (s : ℕ) (z : ℤ) → All (All Dark) (worth_fields s z)
+worth_dark s z = All-from_recursion (All Dark) (worth_fields s z) (numeral_dark s, (signed_dark z, tt))
 
-pub size_dark : (b : WrittenBook) → Each Dark (size_fields b)
-unfolding Each
-size_dark b = (numeral_dark b.conditions, (numeral_dark b.remedies, (numeral_dark b.parts, tt)))
+pub size_dark : (b : WrittenBook) → All (All Dark) (size_fields b)
+size_dark b = All-from_recursion (All Dark) (size_fields b) (numeral_dark b.conditions, (numeral_dark b.remedies, (numeral_dark b.parts, tt)))
 
 module _ (m w : ℕ) where
   -- one line at a time
-  pub read_on_line : (s : State) (k : ℕ) (l bs : Bytes) → All (λ x. ¬ (x ≡ 10)) l → read_on m w s k (l ++ (10 ∷ bs)) ≡ and_then (read_line m w s k l) (λ s'. read_on m w s' (suc k) bs)
+  pub read_on_line : (s : State) (k : ℕ) (l bs : Bytes) → All (Other 10) l → read_on m w s k (l ++ (10 ∷ bs)) ≡ and_then (read_line m w s k l) (λ s'. read_on m w s' (suc k) bs)
   read_on_line s k l bs a = ap (λ p. read_lines m w s k p.0 p.1) (split_line 10 l bs a)
 
-  pub step : (s s' : State) (k l : ℕ) (fs : List Bytes) (rest : Bytes) → Dark l → Each Dark fs → read_line m w s k (joined 9 (l ∷ []) fs) ≡ good s' → read_on m w s k (line l fs ++ rest) ≡ read_on m w s' (suc k) rest
-  unfolding All
-  step s s' k l fs rest d ds h = ap (read_on m w s k) (append_assoc (joined 9 (l ∷ []) fs) (10 ∷ []) rest) ∙ (read_on_line s k (joined 9 (l ∷ []) fs) rest (joined_all (λ x. ¬ (x ≡ 10)) 9 (l ∷ []) fs (λ q. omega arith) ((λ q. omega arith), tt) (each_map Dark (λ x. ¬ (x ≡ 10)) (λ x g q. omega arith) fs ds)) ∙ ap (λ x. and_then x (λ t. read_on m w t (suc k) rest)) h)
+  pub step : (s s' : State) (k l : ℕ) (fs : List Bytes) (rest : Bytes) → Dark l → All (All Dark) fs → read_line m w s k (joined 9 (l ∷ []) fs) ≡ good s' → read_on m w s k (line l fs ++ rest) ≡ read_on m w s' (suc k) rest
+  step s s' k l fs rest d ds h = ap (read_on m w s k) (append_assoc (joined 9 (l ∷ []) fs) (10 ∷ []) rest) ∙ (read_on_line s k (joined 9 (l ∷ []) fs) rest (joined_all (Other 10) 9 (l ∷ []) fs (λ q. omega arith) (All-cons (Other 10) l [] (λ q. omega arith) (All-nil (Other 10))) (All-weaker (All Dark) (All (Other 10)) (All-weaker Dark (Other 10) (λ x g q. omega arith)) fs ds)) ∙ ap (λ x. and_then x (λ t. read_on m w t (suc k) rest)) h)
 
   read_first : (c r p k : ℕ) → SizesFit c r p → read_line m w begin k (joined 9 (66 ∷ []) (size_fields (book c r p [] []))) ≡ good (middle (book c r p [] []))
   read_first c r p k s = ap (λ x. and_then x (enter_line m w begin k)) (line_good k 66 (may_stand begin) (form begin) (size_fields (book c r p [] [])) (pos c ∷ pos r ∷ pos p ∷ []) (lit≤ tt) (size_dark (book c r p [] [])) refl refl (one (check_number k 2 1 32 c s.some_condition s.few_conditions) (one (check_number k 3 1 8 r s.some_remedy s.few_remedies) (one (check_number k 4 1 1000 p s.some_parts s.few_parts) none))))
@@ -58,17 +55,16 @@ module _ (m w : ℕ) where
     read_worth es ws k z small due room = ap (λ x. and_then x (enter_line m w (middle (book c r p es ws)) k)) (line_good k 67 (may_stand (middle (book c r p es ws))) (form (middle (book c r p es ws))) (worth_fields (length ws) z) (pos (length ws) ∷ z ∷ []) (lit≤ tt) (worth_dark (length ws) z) (ap (λ x. is_letter (cond x (69 ∷ []) (cond (eqb (length ws) 0) (82 ∷ 67 ∷ []) (67 ∷ []))) (67 ∷ [])) (lt-leb c (length ws) due) ∙ cond_both (eqb (length ws) 0) (82 ∷ 67 ∷ []) (67 ∷ []) (λ x. is_letter x (67 ∷ []) ≡ true) (λ e. refl) (λ e. refl)) refl (one (check_number k 2 0 (c - 1) (length ws) (omega arith) (omega arith)) (one (check_signed k 3 1000000 z small) none))) ∙ (cond-true (eqb (length ws) (length ws)) _ _ (eq-eqb (length ws) (length ws) refl) ∙ cond-true (ltb (length ws) w) _ _ (lt-ltb (length ws) w room))
 
     pub read_end : (es : List Record) (ws : List ℤ) (k : ℕ) → c ≤ length ws → read_line m w (middle (book c r p es ws)) k (69 ∷ []) ≡ good (finished (book c r p es ws))
-    unfolding Each
-    read_end es ws k all = ap (λ x. and_then x (enter_line m w (middle (book c r p es ws)) k)) (line_good k 69 (may_stand (middle (book c r p es ws))) (form (middle (book c r p es ws))) [] [] (lit≤ tt) tt (ap (λ x. is_letter (cond x (69 ∷ []) (cond (eqb (length ws) 0) (82 ∷ 67 ∷ []) (67 ∷ []))) (69 ∷ [])) (le-leb c (length ws) all)) refl none)
+    read_end es ws k all = ap (λ x. and_then x (enter_line m w (middle (book c r p es ws)) k)) (line_good k 69 (may_stand (middle (book c r p es ws))) (form (middle (book c r p es ws))) [] [] (lit≤ tt) (All-nil (All Dark)) (ap (λ x. is_letter (cond x (69 ∷ []) (cond (eqb (length ws) 0) (82 ∷ 67 ∷ []) (67 ∷ []))) (69 ∷ [])) (le-leb c (length ws) all)) refl none)
 
-    read_worths : (es : List Record) (zs ws : List ℤ) (k : ℕ) (rest : Bytes) → AllSmall zs → length ws + length zs ≤ c → length ws + length zs ≤ w → read_on m w (middle (book c r p es ws)) k (worth_lines (length ws) zs ++ rest) ≡ read_on m w (middle (book c r p es (ws ++ zs))) (k + length zs) rest
+    read_worths : (es : List Record) (zs ws : List ℤ) (k : ℕ) (rest : Bytes) → All SmallMoney zs → length ws + length zs ≤ c → length ws + length zs ≤ w → read_on m w (middle (book c r p es ws)) k (worth_lines (length ws) zs ++ rest) ≡ read_on m w (middle (book c r p es (ws ++ zs))) (k + length zs) rest
     read_worths es [] ws k rest a n room = let z : k ≡ k + 0 = omega arith in ap (λ x. read_on m w (middle (book c r p es x)) k rest) (sym (append-nil ws)) ∙ ap (λ x. read_on m w (middle (book c r p es (ws ++ []))) x rest) z
     read_worths es (z ∷ zs) ws k rest a n room =
         let len : length (ws ++ (z ∷ [])) ≡ suc (length ws) = simp length-append (omega arith) in
         let n' : length ws + suc (length zs) ≤ c = n in
         let room' : length ws + suc (length zs) ≤ w = room in
         let on : suc k + length zs ≡ k + suc (length zs) = omega arith in
-        ap (read_on m w (middle (book c r p es ws)) k) (append_assoc (line 67 (worth_fields (length ws) z)) (worth_lines (suc (length ws)) zs) rest) ∙ (step (middle (book c r p es ws)) (middle (book c r p es (ws ++ (z ∷ [])))) k 67 (worth_fields (length ws) z) (worth_lines (suc (length ws)) zs ++ rest) (lit≤ tt) (worth_dark (length ws) z) (read_worth es ws k z (a 0 (omega arith)) (omega arith) (omega arith)) ∙ (ap (λ x. read_on m w (middle (book c r p es (ws ++ (z ∷ [])))) (suc k) (worth_lines x zs ++ rest)) (sym len) ∙ (read_worths es zs (ws ++ (z ∷ [])) (suc k) rest (λ i q. a (suc i) (omega arith)) (omega arith) (omega arith) ∙ (ap (λ x. read_on m w (middle (book c r p es x)) (suc k + length zs) rest) (append_assoc ws (z ∷ []) zs) ∙ ap (λ x. read_on m w (middle (book c r p es (ws ++ (z ∷ zs)))) x rest) on))))
+        ap (read_on m w (middle (book c r p es ws)) k) (append_assoc (line 67 (worth_fields (length ws) z)) (worth_lines (suc (length ws)) zs) rest) ∙ (step (middle (book c r p es ws)) (middle (book c r p es (ws ++ (z ∷ [])))) k 67 (worth_fields (length ws) z) (worth_lines (suc (length ws)) zs ++ rest) (lit≤ tt) (worth_dark (length ws) z) (read_worth es ws k z (All-head SmallMoney z zs a) (omega arith) (omega arith)) ∙ (ap (λ x. read_on m w (middle (book c r p es (ws ++ (z ∷ [])))) (suc k) (worth_lines x zs ++ rest)) (sym len) ∙ (read_worths es zs (ws ++ (z ∷ [])) (suc k) rest (All-tail SmallMoney z zs a) (omega arith) (omega arith) ∙ (ap (λ x. read_on m w (middle (book c r p es x)) (suc k + length zs) rest) (append_assoc ws (z ∷ []) zs) ∙ ap (λ x. read_on m w (middle (book c r p es (ws ++ (z ∷ zs)))) x rest) on))))
 
     Follows : List Record → List Record → Type 0
     Follows done [] = Unit {0}
@@ -106,11 +102,10 @@ module _ (m w : ℕ) where
 
   -- and with the E line that is due, the whole file
   pub read_rendered : (b : WrittenBook) (rest : Bytes) → LawfulBook b → HasRoom m w b → read_on m w begin 1 (render b ++ rest) ≡ read_on m w (finished b) (suc (suc (line_count b))) rest
-  unfolding Each
   read_rendered b rest h room =
       let s = sound_lawful b h in
       let n = s.1 in
-      ap (read_on m w begin 1) (append_assoc (opening b) (line 69 []) rest) ∙ (read_opened b (line 69 [] ++ rest) s.0 room ∙ step (middle b) (finished b) (suc (line_count b)) 69 [] rest (lit≤ tt) tt (read_end b.conditions b.remedies b.parts s.0.sizes.some_condition b.records b.worths (suc (line_count b)) (omega arith)))
+      ap (read_on m w begin 1) (append_assoc (opening b) (line 69 []) rest) ∙ (read_opened b (line 69 [] ++ rest) s.0 room ∙ step (middle b) (finished b) (suc (line_count b)) 69 [] rest (lit≤ tt) (All-nil (All Dark)) (read_end b.conditions b.remedies b.parts s.0.sizes.some_condition b.records b.worths (suc (line_count b)) (omega arith)))
 
 pub written_then_read : WrittenThenRead
 written_then_read m w b h room = ap (read_on m w begin 1) (sym (append-nil (render b))) ∙ read_rendered m w b [] h room

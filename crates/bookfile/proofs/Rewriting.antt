@@ -125,7 +125,7 @@ module _ (m w : ℕ) where
       let at = c.0 in
       let fs = size_fields (sized zs) in
       subst (λ t. Came m w t (suc k) (bs ++ (l ++ (10 ∷ [])))) (good_same (middle (sized zs)) s' a.2)
-      (record { sound = record { sizes = record { some_condition = u.0.0; few_conditions = u.0.1; some_remedy = u.1.0.0; few_remedies = u.1.0.1; some_parts = u.1.1.0.0; few_parts = u.1.1.0.1 }; entries = λ i q. absurd (omega arith); smalls = λ i q. absurd (omega arith); few = omega arith }; room = record { for_records = omega arith; for_worths = omega arith } }, omega arith, ap (λ t. t ++ (l ++ (10 ∷ []))) c.1 ∙ (ap (λ t. t ++ (10 ∷ [])) r.whole ∙ (ap (λ i. joined 9 (i ∷ []) fs ++ (10 ∷ [])) x ∙ sym (append-nil (line 66 fs)))))
+      (record { sound = record { sizes = record { some_condition = u.0.0; few_conditions = u.0.1; some_remedy = u.1.0.0; few_remedies = u.1.0.1; some_parts = u.1.1.0.0; few_parts = u.1.1.0.1 }; entries = λ i q. absurd (omega arith); smalls = λ i d q. absurd (omega arith); few = omega arith }; room = record { for_records = omega arith; for_worths = omega arith } }, omega arith, ap (λ t. t ++ (l ++ (10 ∷ []))) c.1 ∙ (ap (λ t. t ++ (10 ∷ [])) r.whole ∙ (ap (λ i. joined 9 (i ∷ []) fs ++ (10 ∷ [])) x ∙ sym (append-nil (line 66 fs)))))
   came_line (middle b) s' k bs l c h =
       let a = then_good (check_line k (may_stand (middle b)) (form (middle b)) l) (enter_line m w (middle b) k) s' h in
       goes_any b k bs l a.0.0 a.0.1 s' (cases_eq a.0.0 82) (cases_eq a.0.0 67) c (line_sound k (may_stand (middle b)) (form (middle b)) l a.0 a.1) a.2

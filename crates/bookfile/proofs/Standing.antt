@@ -1,11 +1,14 @@
 -- What stands of a book after some of its lines.
-use Rattle.std.proofs.Common.{◌≡◌, ℕ, zero, suc, ◌+◌, ◌-◌, ◌<◌, ◌≤◌, true, ◌&&◌, ◌||◌, eqb, ltb, ◌⊎◌, List, [], ◌∷◌, ◌++◌, length, get_or, ℤ, pos, sym, refl, ap, ◌∙◌, subst, inl, inr, ⊎_elim, arith, length-append}
-use lib.ListN.{get_or-append}
+use Rattle.std.proofs.Common.{◌≡◌, ℕ, suc, ◌+◌, ◌-◌, ◌<◌, ◌≤◌, true, ◌&&◌, ◌||◌, eqb, ltb, ◌⊎◌, List, [], ◌∷◌, ◌++◌, length, get_or, ℤ, pos, sym, refl, ◌∙◌, subst, inl, inr, ⊎_elim, arith, length-append}
+use lib.ListN.{get_or-append, replicate}
 use lib.Seq.{get_or_at}
+use Rattle.std.specs.List.{All}
+use Rattle.std.proofs.lemmas.List.{length-replicate}
+use Rattle.std.proofs.lemmas.List.Elements.{All-replicate, All-append, All-push, All-from_get_or}
 use Rattle.std.proofs.lemmas.Bool.{ltb-true, eqb-true, eq-eqb, lt-ltb, and_parts, and_from, or_left, or_right, or_cases, cases_eq, cases_lt}
 use Rattle.books.specs.declared.record.Record.{Record}
 use Rattle.books.specs.Alike.{SizesFit}
-use Rattle.books.specs.Entries.{SmallMoney, AllSmall, RecordFits, Rising, no_record}
+use Rattle.books.specs.Entries.{SmallMoney, RecordFits, Rising, no_record}
 use Rattle.books.specs.Making.{Entered, InTable, ListEntryFits}
 use Rattle.bookfile.specs.File.{WrittenBook}
 use Rattle.bookfile.specs.FileFaults.{LawfulBook, more_worths, Begun}
@@ -15,7 +18,7 @@ use Rattle.bookfile.specs.Reading.{rises, rises_after, plus_record, plus_worth}
 pub record SoundBook (b : WrittenBook) : Type 0 where
   pub sizes : SizesFit b.conditions b.remedies b.parts
   pub entries : (i : ℕ) → i < length b.records → Entered b.conditions b.remedies b.parts b.records i
-  pub smalls : AllSmall b.worths
+  pub smalls : All SmallMoney b.worths
   pub few : length b.worths ≤ b.conditions
 
 -- the record rises above the last one, if there is one
@@ -49,10 +52,6 @@ entered_more c r p es e h g up i (inr ge) q =
     let s = sym (get_or_at es e [] no_record i n) in
     (subst (RecordFits c r p) s g, λ k u. subst (λ x. Rising x (get_or (es ++ (e ∷ [])) i no_record)) (sym (get_or-append es (e ∷ []) no_record k (omega arith))) (subst (Rising (get_or es k no_record)) s (up k (u ∙ sym n))))
 
-small_more : (zs : List ℤ) (z : ℤ) → AllSmall zs → SmallMoney z → (i : ℕ) → (i < length zs) ⊎ (length zs ≤ i) → i < suc (length zs) → SmallMoney (get_or (zs ++ (z ∷ [])) i (pos 0))
-small_more zs z h g i (inl lt) q = subst SmallMoney (sym (get_or-append zs (z ∷ []) (pos 0) i lt)) (h i lt)
-small_more zs z h g i (inr ge) q = let n : length zs ≡ i = omega arith in subst SmallMoney (sym (get_or_at zs z [] (pos 0) i n)) g
-
 pub sound_record : (b : WrittenBook) (e : Record) → SoundBook b → RecordFits b.conditions b.remedies b.parts e → AboveLast b.records e → SoundBook (plus_record b e)
 sound_record b e s g up =
     let n : length (b.records ++ (e ∷ [])) ≡ suc (length b.records) = simp length-append (omega arith) in
@@ -61,7 +60,7 @@ sound_record b e s g up =
 pub sound_worth : (b : WrittenBook) (z : ℤ) → SoundBook b → SmallMoney z → length b.worths < b.conditions → SoundBook (plus_worth b z)
 sound_worth b z s g due =
     let n : length (b.worths ++ (z ∷ [])) ≡ suc (length b.worths) = simp length-append (omega arith) in
-    record { sizes = s.sizes; entries = s.entries; smalls = λ i v. small_more b.worths z s.smalls g i (cases_lt i (length b.worths)) (omega arith); few = omega arith }
+    record { sizes = s.sizes; entries = s.entries; smalls = All-push SmallMoney b.worths z s.smalls g; few = omega arith }
 
 pub lawful_sound : (b : WrittenBook) → SoundBook b → length b.worths ≡ b.conditions → LawfulBook b
 lawful_sound b s n = ((s.sizes, n), λ t i q. entry t i q)
@@ -69,44 +68,25 @@ lawful_sound b s n = ((s.sizes, n), λ t i q. entry t i q)
     entry : (t i : ℕ) → InTable (length b.records) 0 (length b.worths) t i → ListEntryFits b.conditions b.remedies b.parts b.records b.worths t i
     entry t i (inl (e, q)) = ((λ v. s.entries i q), (λ v. absurd (omega arith)))
     entry t i (inr (inl (e, q))) = absurd (omega arith)
-    entry t i (inr (inr (e, q))) = ((λ v. absurd (omega arith)), (λ v. s.smalls i q))
+    entry t i (inr (inr (e, q))) = ((λ v. absurd (omega arith)), (λ v. s.smalls i (pos 0) q))
 
 pub sound_lawful : (b : WrittenBook) → LawfulBook b → SoundBook b × (length b.worths ≡ b.conditions)
 sound_lawful b h =
     let n : length b.worths ≡ b.conditions = h.0.1 in
-    (record { sizes = h.0.0; entries = λ i q. (h.1 1 i (inl (refl, q))).0 refl; smalls = λ i q. (h.1 3 i (inr (inr (refl, q)))).1 refl; few = omega arith }, n)
-
-zeros : ℕ → List ℤ
-zeros zero = []
-zeros (suc n) = pos 0 ∷ zeros n
-
-zeros_long : (n : ℕ) → length (zeros n) ≡ n
-unfolding zeros
-zeros_long zero = refl
-zeros_long (suc n) = ap suc (zeros_long n)
-
-zeros_small : (n : ℕ) → AllSmall (zeros n)
-unfolding zeros
-zeros_small zero i q = absurd (omega arith)
-zeros_small (suc n) zero q = omega arith
-zeros_small (suc n) (suc i) q = zeros_small n i (omega arith)
-
-small_both : (xs ys : List ℤ) → AllSmall xs → AllSmall ys → AllSmall (xs ++ ys)
-small_both [] ys a b i q = b i q
-small_both (x ∷ xs) ys a b zero q = a 0 (omega arith)
-small_both (x ∷ xs) ys a b (suc i) q = small_both xs ys (λ j p. a (suc j) (omega arith)) b i (omega arith)
+    (record { sizes = h.0.0; entries = λ i q. (h.1 1 i (inl (refl, q))).0 refl; smalls = All-from_get_or SmallMoney b.worths (pos 0) (λ i q. (h.1 3 i (inr (inr (refl, q)))).1 refl); few = omega arith }, n)
 
 pub begun_sound : (b : WrittenBook) → SoundBook b → Begun b
 begun_sound b s =
     let n = b.conditions - length b.worths in
+    let zeros : List ℤ = replicate n (pos 0) in
     let few = s.few in
-    let long = zeros_long n in
-    let all : length (b.worths ++ zeros n) ≡ b.conditions = simp length-append (omega arith) in
-    (zeros n, lawful_sound (more_worths b (zeros n)) (record { sizes = s.sizes; entries = s.entries; smalls = small_both b.worths (zeros n) s.smalls (zeros_small n); few = omega arith }) all)
+    let long = length-replicate n (pos 0) in
+    let all : length (b.worths ++ zeros) ≡ b.conditions = simp length-append (omega arith) in
+    (zeros, lawful_sound (more_worths b zeros) (record { sizes = s.sizes; entries = s.entries; smalls = All-append SmallMoney b.worths zeros s.smalls (All-replicate SmallMoney n (pos 0) (omega arith)); few = omega arith }) all)
 
 pub sound_begun : (b : WrittenBook) → Begun b → SoundBook b
 sound_begun b (zs, h) =
     let s = sound_lawful (more_worths b zs) h in
     let n = s.1 in
     let long : length (b.worths ++ zs) ≡ length b.worths + length zs = length-append b.worths zs in
-    record { sizes = s.0.sizes; entries = s.0.entries; smalls = λ i q. subst SmallMoney (get_or-append b.worths zs (pos 0) i q) (s.0.smalls i (omega arith)); few = omega arith }
+    record { sizes = s.0.sizes; entries = s.0.entries; smalls = λ i d q. subst SmallMoney (get_or-append b.worths zs d i q) (s.0.smalls i d (omega arith)); few = omega arith }

@@ -1,13 +1,14 @@
 -- Every fault that is computed is the first.
 use Rattle.std.proofs.Common.{◌≡◌, ℕ, suc, cond, eqb, ltb, ◌⊎◌, List, [], ◌∷◌, ◌++◌, length, get_or, ℤ, pos, sym, refl, ap, ◌∙◌, subst, inl, inr, ⊎_elim}
+use Rattle.std.specs.List.{All}
+use Rattle.std.proofs.lemmas.List.Elements.{All-head, All-tail}
 use Rattle.std.proofs.lemmas.Bool.{ltb-false, both_ways, cases_eq}
 use Rattle.fields.specs.Numerals.{Bytes}
 use Rattle.fields.specs.Lines.{joined}
 use Rattle.fields.specs.Kinds.Misread.{unended}
 use Rattle.fields.specs.Checking.{Reported, reported, size_at, check_line}
 use Rattle.fields.specs.Checking.Checked.{good, faulty}
-use Rattle.fields.proofs.Digits.{All, all_index}
-use Rattle.fields.proofs.Splitting.{Each}
+use Rattle.fields.proofs.Splitting.{Other}
 use Rattle.fields.proofs.Faulted.{not_both, fault_same, cond_fail, then_fail, line_faults_are_exact_lem}
 use Rattle.fields.proofs.Passing.{LineGood, line_fine}
 use Rattle.bookfile.specs.File.{WrittenBook, State, line_count, may_stand, form}
@@ -61,13 +62,13 @@ module _ (m w : ℕ) where
   stops_any b k bs rest x zs f (inr n) (inl e) c g h = subst (λ y. Stops b k bs rest y zs f) (sym e) (stops_worth b k bs rest zs f) c g h
   stops_any b k bs rest x zs f (inr n) (inr n') c g h = subst (λ y. Stops b k bs rest y zs f) (sym (stand_end b x g.letter n n').0) (λ c' g' h'. absurd (not_both (finished b) f h')) c g h
 
-  line_stops : (s : State) (k : ℕ) (bs l onw : Bytes) (f : Reported) → Came m w s k bs → All (λ x. ¬ (x ≡ 10)) l → read_line m w s k l ≡ faulty f → Faulty m w (bs ++ (l ++ (10 ∷ onw))) f
+  line_stops : (s : State) (k : ℕ) (bs l onw : Bytes) (f : Reported) → Came m w s k bs → All (Other 10) l → read_line m w s k l ≡ faulty f → Faulty m w (bs ++ (l ++ (10 ∷ onw))) f
   line_stops begin k bs l onw f c a h = ⊎_elim
-      (λ e. let d = (line_faults_are_exact_lem k (may_stand begin) (form begin) l onw f (all_index (λ x. ¬ (x ≡ 10)) l a)).0 e in subst (λ x. Faulty m w (x ++ (l ++ (10 ∷ onw))) f) (sym c.1) (subst (Faulty m w (l ++ (10 ∷ onw))) (ap (λ x. reported d.0 x d.1) (sym c.0) ∙ sym d.2) (first_line d.0 d.1 d.3)))
+      (λ e. let d = (line_faults_are_exact_lem k (may_stand begin) (form begin) l onw f (λ j q. a j 0 q)).0 e in subst (λ x. Faulty m w (x ++ (l ++ (10 ∷ onw))) f) (sym c.1) (subst (Faulty m w (l ++ (10 ∷ onw))) (ap (λ x. reported d.0 x d.1) (sym c.0) ∙ sym d.2) (first_line d.0 d.1 d.3)))
       (λ e. absurd (not_both (middle (sized e.0.1)) f e.2))
       (then_fail (check_line k (may_stand begin) (form begin) l) (enter_line m w begin k) f h)
   line_stops (middle b) k bs l onw f c a h = ⊎_elim
-      (λ e. let d = (line_faults_are_exact_lem k (may_stand (middle b)) (form (middle b)) l onw f (all_index (λ x. ¬ (x ≡ 10)) l a)).0 e in subst (Faulty m w (bs ++ (l ++ (10 ∷ onw)))) (ap (λ x. reported d.0 x d.1) (sym c.1) ∙ sym d.2) (later_line b (l ++ (10 ∷ onw)) d.0 d.1 (opens b k bs (l ++ (10 ∷ onw)) c) d.3))
+      (λ e. let d = (line_faults_are_exact_lem k (may_stand (middle b)) (form (middle b)) l onw f (λ j q. a j 0 q)).0 e in subst (Faulty m w (bs ++ (l ++ (10 ∷ onw)))) (ap (λ x. reported d.0 x d.1) (sym c.1) ∙ sym d.2) (later_line b (l ++ (10 ∷ onw)) d.0 d.1 (opens b k bs (l ++ (10 ∷ onw)) c) d.3))
       (λ e. stops_any b k bs (l ++ (10 ∷ onw)) e.0.0 e.0.1 f (cases_eq e.0.0 82) (cases_eq e.0.0 67) c (line_fine k (may_stand (middle b)) (form (middle b)) l onw e.0 a e.1) e.2)
       (then_fail (check_line k (may_stand (middle b)) (form (middle b)) l) (enter_line m w (middle b) k) f h)
   line_stops (finished b) k bs l onw f c a h = subst (Faulty m w (bs ++ (l ++ (10 ∷ onw)))) (ap (λ x. reported 26 x 0) (sym c.2) ∙ fault_same {A = State} (reported 26 k 0) f h) (ends l)
@@ -76,16 +77,15 @@ module _ (m w : ℕ) where
       ends [] = after_end b 10 onw (lawful_sound b c.0.sound c.1) c.0.room (ap (λ x. x ++ (10 ∷ onw)) c.3)
       ends (x ∷ xs) = after_end b x (xs ++ (10 ∷ onw)) (lawful_sound b c.0.sound c.1) c.0.room (ap (λ y. y ++ (x ∷ (xs ++ (10 ∷ onw)))) c.3)
 
-  rest_stops : (s : State) (k : ℕ) (bs l : Bytes) (f : Reported) → Came m w s k bs → All (λ x. ¬ (x ≡ 10)) l → read_rest m w s k l ≡ faulty f → Faulty m w (bs ++ l) f
-  rest_stops begin k bs l f c a h = subst (λ x. Faulty m w (x ++ l) f) (sym c.1) (subst (Faulty m w l) (ap (λ x. reported 26 x 0) (sym c.0) ∙ fault_same {A = WrittenBook} (reported 26 k 0) f h) (first_line 26 0 (unended (all_index (λ x. ¬ (x ≡ 10)) l a))))
-  rest_stops (middle b) k bs l f c a h = subst (Faulty m w (bs ++ l)) (ap (λ x. reported 26 x 0) (sym c.1) ∙ fault_same {A = WrittenBook} (reported 26 k 0) f h) (later_line b l 26 0 (opens b k bs l c) (unended (all_index (λ x. ¬ (x ≡ 10)) l a)))
+  rest_stops : (s : State) (k : ℕ) (bs l : Bytes) (f : Reported) → Came m w s k bs → All (Other 10) l → read_rest m w s k l ≡ faulty f → Faulty m w (bs ++ l) f
+  rest_stops begin k bs l f c a h = subst (λ x. Faulty m w (x ++ l) f) (sym c.1) (subst (Faulty m w l) (ap (λ x. reported 26 x 0) (sym c.0) ∙ fault_same {A = WrittenBook} (reported 26 k 0) f h) (first_line 26 0 (unended (λ j q. a j 0 q))))
+  rest_stops (middle b) k bs l f c a h = subst (Faulty m w (bs ++ l)) (ap (λ x. reported 26 x 0) (sym c.1) ∙ fault_same {A = WrittenBook} (reported 26 k 0) f h) (later_line b l 26 0 (opens b k bs l c) (unended (λ j q. a j 0 q)))
   rest_stops (finished b) k bs [] f c a h = absurd (not_both b f h)
   rest_stops (finished b) k bs (x ∷ l) f c a h = subst (Faulty m w (bs ++ (x ∷ l))) (ap (λ y. reported 26 y 0) (sym c.2) ∙ fault_same {A = WrittenBook} (reported 26 k 0) f h) (after_end b x l (lawful_sound b c.0.sound c.1) c.0.room (ap (λ y. y ++ (x ∷ l)) c.3))
 
-  pub lines_stop : (s : State) (k : ℕ) (bs l : Bytes) (ls : List Bytes) (f : Reported) → Came m w s k bs → All (λ x. ¬ (x ≡ 10)) l → Each (λ x. ¬ (x ≡ 10)) ls → read_lines m w s k l ls ≡ faulty f → Faulty m w (bs ++ joined 10 l ls) f
-  unfolding Each
+  pub lines_stop : (s : State) (k : ℕ) (bs l : Bytes) (ls : List Bytes) (f : Reported) → Came m w s k bs → All (Other 10) l → All (All (Other 10)) ls → read_lines m w s k l ls ≡ faulty f → Faulty m w (bs ++ joined 10 l ls) f
   lines_stop s k bs l [] f c a t h = rest_stops s k bs l f c a h
   lines_stop s k bs l (l' ∷ ls) f c a t h = ⊎_elim
       (λ e. line_stops s k bs l (joined 10 l' ls) f c a e)
-      (λ e. subst (λ x. Faulty m w x f) (line_joined m w bs l l' ls) (lines_stop e.0 (suc k) (bs ++ (l ++ (10 ∷ []))) l' ls f (came_line m w s e.0 k bs l c e.1) t.0 t.1 e.2))
+      (λ e. subst (λ x. Faulty m w x f) (line_joined m w bs l l' ls) (lines_stop e.0 (suc k) (bs ++ (l ++ (10 ∷ []))) l' ls f (came_line m w s e.0 k bs l c e.1) (All-head (All (Other 10)) l' ls t) (All-tail (All (Other 10)) l' ls t) e.2))
       (then_fail (read_line m w s k l) (λ s'. read_lines m w s' (suc k) l' ls) f h)

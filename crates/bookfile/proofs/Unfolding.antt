@@ -1,7 +1,7 @@
 -- Reading unfolds by one line, as the code reads one.
-use Rattle.std.proofs.Common.{◌≡◌, ℕ, suc, ◌<◌, ◌≤◌, ltb, ◌⊎◌, List, [], ◌∷◌, ◌++◌, length, get_or, ℤ, Ok, Err, Result, sym, refl, ap, ◌∙◌, subst, inl, inr, ⊎_elim, arith, length-append, MatchResult}
-use lib.ListN.{get_or-append}
+use Rattle.std.proofs.Common.{◌≡◌, ℕ, suc, ◌<◌, ◌≤◌, ltb, List, [], ◌∷◌, ◌++◌, length, get_or, ℤ, Ok, Err, Result, sym, refl, ap, ◌∙◌, subst, inl, inr, ⊎_elim, arith, length-append, MatchResult}
 use lib.Seq.{get_or_at}
+use Rattle.std.proofs.lemmas.List.Elements.{All-push, All-get_or, All-from_get_or}
 use Rattle.std.proofs.lemmas.Bool.{lt-ltb, le-ltb, cond-true, cond-false, cases_lt, false_from_ne_true}
 use Rattle.books.specs.declared.record.Record.{Record}
 use Rattle.books.specs.Entries.{Rising, no_record, key}
@@ -74,10 +74,6 @@ module _ (m w : ℕ) (b : WrittenBook) (k : ℕ) (e : Record) (all : AllPlacedWe
   record_entered : least_key b.records ≤ key e → length b.records < m → enter_record m w b k e ≡ good (middle (plus_record b e))
   record_entered due free = cond-true (rises_after b.records e) _ _ (above_last b.records e (key_due b.records e all u due)) ∙ cond-true (ltb (length b.records) m) _ _ (lt-ltb (length b.records) m free)
 
-placed_more : (es : List Record) (e : Record) → AllPlacedWell es → PlacedWell e → (i : ℕ) → (i < length es) ⊎ (length es ≤ i) → i < suc (length es) → PlacedWell (get_or (es ++ (e ∷ [])) i no_record)
-placed_more es e all u i (inl lt) q = subst PlacedWell (sym (get_or-append es (e ∷ []) no_record i lt)) (all i lt)
-placed_more es e all u i (inr ge) q = let n : length es ≡ i = omega arith in subst PlacedWell (sym (get_or_at es e [] no_record i n)) u
-
 placed_well : (z : Sizes) (e : Record) → FitsSizes z e → PlacedWell e
 placed_well z e h = let few = z.fit.few_conditions in let few' = z.fit.few_remedies in let a = h.remedy in let b = h.next in (omega arith, omega arith)
 
@@ -94,7 +90,7 @@ record_plus p e p' h a =
       tells = λ es ws t.
           let n : length (es ++ (e ∷ [])) ≡ suc (length es) = simp length-append (omega arith) in
           let l = least_more es e in let q = t.count_is in
-          record { least_is = omega arith; count_is = omega arith; worths_is = a.worths ∙ t.worths_is; placed = λ i v. placed_more es e t.placed u i (cases_lt i (length es)) (omega arith) };
+          record { least_is = omega arith; count_is = omega arith; worths_is = a.worths ∙ t.worths_is; placed = λ i v. All-get_or PlacedWell (es ++ (e ∷ [])) i no_record v (All-push PlacedWell es e (All-from_get_or PlacedWell es no_record t.placed) u) };
     }
 
 record_not : (p : Progress) (e : Record) (f : FileFault) → FitsSizes p.sizes e → NotEntered (line_of p) (key e < least_after p.last) (p.room.records ≤ p.count) f → EntryStopped p (Outcome e) f

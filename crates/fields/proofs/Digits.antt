@@ -1,43 +1,17 @@
 -- A numeral and its value determine each other.
 use Rattle.std.proofs.Common.{◌≡◌, ℕ, zero, suc, ◌+◌, ◌-◌, ◌*◌, ◌/◌, ◌%◌, ◌<◌, ◌≤◌, true, cond, eqb, ltb, [], ◌∷◌, ◌++◌, length, get_or, ℤ, pos, negsuc, neg_ℤ, sym, refl, ap, ◌∙◌, subst, ⊎_elim, append_assoc, append-nil, arith}
+use Rattle.std.specs.List.{All}
+use Rattle.std.proofs.lemmas.List.Elements.{All-nil, All-cons, All-head, All-tail, All-get_or, All-from_get_or}
 use Rattle.std.proofs.lemmas.Bool.{ltb-true, ltb-false, eqb-true, ne_eqb, eq-eqb, and_parts, and_from, cond_both, cond-true, cond-false, le-ltb, lt-ltb, cases_eq}
 use Rattle.fields.specs.Numerals.{Bytes, digits_onto, numeral, signed, value_after, value, signed_value, BaseTen, NumeralsAreBaseTen}
 use Rattle.fields.specs.Lines.{same}
 
--- every byte passes
-unfoldable pub All : (ℕ → Type 0) → Bytes → Type 0
-All P [] = Unit {0}
-All P (x ∷ xs) = P x × All P xs
-
-pub all_index : (P : ℕ → Type 0) (bs : Bytes) → All P bs → (i : ℕ) → i < length bs → P (get_or bs i 0)
-unfolding All
-all_index P [] a i q = absurd (omega arith)
-all_index P (x ∷ bs) a zero q = a.0
-all_index P (x ∷ bs) a (suc i) q = all_index P bs a.1 i (omega arith)
-
-pub index_all : (P : ℕ → Type 0) (bs : Bytes) → ((i : ℕ) → i < length bs → P (get_or bs i 0)) → All P bs
-unfolding All
-index_all P [] h = tt
-index_all P (x ∷ bs) h = (h 0 (omega arith), index_all P bs (λ i q. h (suc i) (omega arith)))
-
-pub all_map : (P Q : ℕ → Type 0) → ((x : ℕ) → P x → Q x) → (bs : Bytes) → All P bs → All Q bs
-unfolding All
-all_map P Q f [] a = tt
-all_map P Q f (x ∷ xs) a = (f x a.0, all_map P Q f xs a.1)
-
-pub all_append : (P : ℕ → Type 0) (xs ys : Bytes) → All P xs → All P ys → All P (xs ++ ys)
-unfolding All
-all_append P [] ys a b = b
-all_append P (x ∷ xs) ys a b = (a.0, all_append P xs ys a.1 b)
-
 onto_all : (P : ℕ → Type 0) → ((d : ℕ) → d < 10 → P (48 + d)) → (k n : ℕ) (bs : Bytes) → n < k → All P bs → All P (digits_onto k n bs)
-unfolding All
 onto_all P p zero n bs h a = a
-onto_all P p (suc k) n bs h a = cond_both (ltb n 10) _ _ (All P) (λ e. (p n (ltb-true n 10 e), a)) (λ e. onto_all P p k (n / 10) ((48 + n % 10) ∷ bs) (omega (arith, ltb-false n 10 e)) (p (n % 10) (omega arith), a))
+onto_all P p (suc k) n bs h a = cond_both (ltb n 10) _ _ (All P) (λ e. All-cons P (48 + n) bs (p n (ltb-true n 10 e)) a) (λ e. onto_all P p k (n / 10) ((48 + n % 10) ∷ bs) (omega (arith, ltb-false n 10 e)) (All-cons P (48 + n % 10) bs (p (n % 10) (omega arith)) a))
 
 pub numeral_all : (P : ℕ → Type 0) → ((d : ℕ) → d < 10 → P (48 + d)) → (n : ℕ) → All P (numeral n)
-unfolding All
-numeral_all P p n = onto_all P p (suc n) n [] (omega arith) tt
+numeral_all P p n = onto_all P p (suc n) n [] (omega arith) (All-nil P)
 
 onto_value : (k n : ℕ) (bs : Bytes) → n < k → value_after 0 (digits_onto k n bs) ≡ value_after n bs
 onto_value zero n bs h = absurd (omega arith)
@@ -50,9 +24,8 @@ pub numeral_value : (f : Bytes) (n : ℕ) → f ≡ numeral n → value f ≡ n
 numeral_value f n e = ap value e ∙ value_numeral n
 
 signed_plain : (bs : Bytes) → All (λ x. 48 ≤ x) bs → signed_value bs ≡ pos (value bs)
-unfolding All
 signed_plain [] a = refl
-signed_plain (x ∷ xs) a = let h : 48 ≤ x = a.0 in cond-false (eqb x 45) _ _ (ne_eqb x 45 (λ e. omega arith))
+signed_plain (x ∷ xs) a = let h : 48 ≤ x = All-head (λ y. 48 ≤ y) x xs a in cond-false (eqb x 45) _ _ (ne_eqb x 45 (λ e. omega arith))
 
 pub value_signed : (z : ℤ) → signed_value (signed z) ≡ z
 value_signed (pos n) = signed_plain (numeral n) (numeral_all (λ x. 48 ≤ x) (λ d h. omega arith) n) ∙ ap pos (value_numeral n)
@@ -91,12 +64,11 @@ Digit x = (48 ≤ x) × (x ≤ 57)
 
 -- digits after a number that is not 0 stand after its numeral
 numeral_after : (xs : Bytes) (d : ℕ) → 1 ≤ d → All Digit xs → numeral (value_after d xs) ≡ numeral d ++ xs
-unfolding All
 numeral_after [] d h a = sym (append-nil (numeral d))
 numeral_after (x ∷ xs) d h a =
-    let low : 48 ≤ x = a.0.0 in let high : x ≤ 57 = a.0.1 in
+    let digit = All-head Digit x xs a in let low : 48 ≤ x = digit.0 in let high : x ≤ 57 = digit.1 in
     let e : 48 + (x - 48) ≡ x = omega arith in
-    numeral_after xs (d * 10 + (x - 48)) (omega arith) a.1 ∙ (ap (λ y. y ++ xs) (numeral_more d (x - 48) h (omega arith)) ∙ (ap (λ y. (numeral d ++ (y ∷ [])) ++ xs) e ∙ append_assoc (numeral d) (x ∷ []) xs))
+    numeral_after xs (d * 10 + (x - 48)) (omega arith) (All-tail Digit x xs a) ∙ (ap (λ y. y ++ xs) (numeral_more d (x - 48) h (omega arith)) ∙ (ap (λ y. (numeral d ++ (y ∷ [])) ++ xs) e ∙ append_assoc (numeral d) (x ∷ []) xs))
 
 pub numeral_back : (bs : Bytes) → BaseTen bs → bs ≡ numeral (value bs)
 numeral_back [] b = absurd (omega (arith, b.some))
@@ -114,7 +86,7 @@ numeral_back (x ∷ xs) b = ⊎_elim zero_alone leads (cases_eq x 48)
         let low : 48 ≤ x = b.low 0 (omega arith) in let high : x ≤ 57 = b.high 0 (omega arith) in
         let e : 48 + (x - 48) ≡ x = omega arith in
         let d : 0 * 10 + (x - 48) ≡ x - 48 = omega arith in
-        sym (numeral_after xs (0 * 10 + (x - 48)) (omega arith) (index_all Digit xs (λ i q. (b.low (suc i) (omega arith), b.high (suc i) (omega arith)))) ∙ (ap (λ y. numeral y ++ xs) d ∙ (ap (λ y. y ++ xs) (cond-true (ltb (x - 48) 10) _ _ (lt-ltb (x - 48) 10 (omega arith))) ∙ ap (λ y. y ∷ xs) e)))
+        sym (numeral_after xs (0 * 10 + (x - 48)) (omega arith) (All-from_get_or Digit xs 0 (λ i q. (b.low (suc i) (omega arith), b.high (suc i) (omega arith)))) ∙ (ap (λ y. numeral y ++ xs) d ∙ (ap (λ y. y ++ xs) (cond-true (ltb (x - 48) 10) _ _ (lt-ltb (x - 48) 10 (omega arith))) ∙ ap (λ y. y ∷ xs) e)))
 
 onto_leads : (k n : ℕ) (bs : Bytes) → n < k → 1 ≤ n → 48 < get_or (digits_onto k n bs) 0 0
 onto_leads zero n bs h g = absurd (omega arith)
@@ -127,8 +99,8 @@ onto_some (suc k) n bs h = cond_both (ltb n 10) _ _ (λ x. 0 < length x) (λ e. 
 pub numeral_base_ten : (n : ℕ) → BaseTen (numeral n)
 numeral_base_ten n = record {
   some = onto_some (suc n) n [] (omega arith);
-  low = all_index (λ x. 48 ≤ x) (numeral n) (numeral_all (λ x. 48 ≤ x) (λ d h. omega arith) n);
-  high = all_index (λ x. x ≤ 57) (numeral n) (numeral_all (λ x. x ≤ 57) (λ d h. omega arith) n);
+  low = λ i q. All-get_or (λ x. 48 ≤ x) (numeral n) i 0 q (numeral_all (λ x. 48 ≤ x) (λ d h. omega arith) n);
+  high = λ i q. All-get_or (λ x. x ≤ 57) (numeral n) i 0 q (numeral_all (λ x. x ≤ 57) (λ d h. omega arith) n);
   leading = leads n;
 }
   where

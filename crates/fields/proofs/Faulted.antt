@@ -1,5 +1,7 @@
 -- The first fault of a line that is computed is the one that the format's own terms name.
 use Rattle.std.proofs.Common.{◌≡◌, ℕ, zero, suc, ◌+◌, ◌<◌, ◌≤◌, Bool, true, false, cond, ◌&&◌, eqb, leb, ◌⊎◌, List, [], ◌∷◌, ◌++◌, length, get_or, ℤ, pos, nat_abs, sym, refl, ap, ◌∙◌, subst, inl, inr, ⊎_elim, arith}
+use Rattle.std.specs.List.{All}
+use Rattle.std.proofs.lemmas.List.Elements.{All-from_get_or}
 use Rattle.std.proofs.lemmas.Bool.{eqb-true, eqb-false, eq-eqb, ne_eqb, and_from, cond-true, cond-false, le-leb, or_left, or_right, both_ways}
 use Rattle.fields.specs.Numerals.{Bytes, numeral, signed, value, signed_value}
 use Rattle.fields.specs.Lines.{same, split, joined, Starts}
@@ -8,8 +10,8 @@ use Rattle.fields.specs.Kinds.Kind.{one_of, from_to, either_way}
 use Rattle.fields.specs.Kinds.Misread.{unended, wrong_letter, wrong_count, wrong_field}
 use Rattle.fields.specs.Checking.{Reported, reported, Checked, and_then, is_letter, check_field, check_fields, check_line, LineFaultsAreExact}
 use Rattle.fields.specs.Checking.Checked.{good, faulty}
-use Rattle.fields.proofs.Digits.{All, index_all, numeral_value, signed_is, same_sound, same_itself}
-use Rattle.fields.proofs.Splitting.{starts, started, first_part, not_ended}
+use Rattle.fields.proofs.Digits.{numeral_value, signed_is, same_sound, same_itself}
+use Rattle.fields.proofs.Splitting.{Other, starts, started, first_part, not_ended}
 use Rattle.fields.proofs.Faultless.{cond_good, letter_one, check_number, check_signed, field_sound, field_within}
 
 pub fault_same : {A : Type 0} (x z : Reported) → ◌≡◌ {A = Checked A} (faulty x) (faulty z) → x ≡ z
@@ -146,7 +148,7 @@ check_parts k ls ts p = and_then (check_field k 1 (one_of ls) p.0) (λ y. cond (
 abbrev pub check_counted : (k : ℕ) → List Kind → ℕ → List Bytes → Checked (ℕ × List ℤ)
 check_counted k ks x gs = cond (eqb (length gs) (length ks)) (and_then (check_fields k 2 ks gs) (λ ys. good (x, ys))) (faulty (reported 21 k 0))
 
-line_after : (k : ℕ) (ls : Bytes) (ts : ℕ → List Kind) (l onw : Bytes) (f : Reported) → All (λ x. ¬ (x ≡ 10)) l → (x : ℕ) → (split 9 l).0 ≡ x ∷ [] → LetterOf ls x → check_counted k (ts x) x (split 9 l).1 ≡ faulty f → LineFails ls ts (l ++ (10 ∷ onw)) k f
+line_after : (k : ℕ) (ls : Bytes) (ts : ℕ → List Kind) (l onw : Bytes) (f : Reported) → All (Other 10) l → (x : ℕ) → (split 9 l).0 ≡ x ∷ [] → LetterOf ls x → check_counted k (ts x) x (split 9 l).1 ≡ faulty f → LineFails ls ts (l ++ (10 ∷ onw)) k f
 line_after k ls ts l onw f a x p o h =
     let gs = (split 9 l).1 in
     let s : Starts (l ++ (10 ∷ onw)) (x ∷ []) gs = subst (λ y. Starts (l ++ (10 ∷ onw)) y gs) p (starts l onw a) in
@@ -158,7 +160,7 @@ line_after k ls ts l onw f a x p o h =
     (then_fail {B = ℕ × List ℤ} (check_fields k 2 (ts x) gs) (λ zs. good (x, zs)) f b.1))
     (cond_fail {A = ℕ × List ℤ} (eqb (length gs) (length (ts x))) (and_then (check_fields k 2 (ts x) gs) (λ zs. good (x, zs))) (reported 21 k 0) f h)
 
-line_fail : (k : ℕ) (ls : Bytes) (ts : ℕ → List Kind) (l onw : Bytes) (f : Reported) → All (λ x. ¬ (x ≡ 10)) l → check_line k ls ts l ≡ faulty f → LineFails ls ts (l ++ (10 ∷ onw)) k f
+line_fail : (k : ℕ) (ls : Bytes) (ts : ℕ → List Kind) (l onw : Bytes) (f : Reported) → All (Other 10) l → check_line k ls ts l ≡ faulty f → LineFails ls ts (l ++ (10 ∷ onw)) k f
 line_fail k ls ts l onw f a h =
     let g = (split 9 l).0 in let gs = (split 9 l).1 in
     ⊎_elim
@@ -167,7 +169,7 @@ line_fail k ls ts l onw f a h =
     (then_fail {B = ℕ × List ℤ} (check_field k 1 (one_of ls) g) (λ v. check_counted k (ts (nat_abs v)) (nat_abs v) gs) f h)
 
 -- the line that some bytes begin with is the one that is checked
-pub line_started : (k : ℕ) (ls : Bytes) (ts : ℕ → List Kind) (l onw f : Bytes) (fs : List Bytes) → All (λ x. ¬ (x ≡ 10)) l → Starts (l ++ (10 ∷ onw)) f fs → check_line k ls ts l ≡ check_parts k ls ts (f, fs)
+pub line_started : (k : ℕ) (ls : Bytes) (ts : ℕ → List Kind) (l onw f : Bytes) (fs : List Bytes) → All (Other 10) l → Starts (l ++ (10 ∷ onw)) f fs → check_line k ls ts l ≡ check_parts k ls ts (f, fs)
 line_started k ls ts l onw f fs a s =
     let d = started (l ++ (10 ∷ onw)) f fs s in
     let e : l ≡ joined 9 f fs = first_part 10 l (joined 9 f fs) onw s.more a d.0 s.whole in
@@ -176,7 +178,7 @@ line_started k ls ts l onw f fs a s =
 pub letter_passes : (k : ℕ) (ls : Bytes) (ts : ℕ → List Kind) (x : ℕ) (fs : List Bytes) → LetterOf ls x → check_parts k ls ts (x ∷ [], fs) ≡ check_counted k (ts x) x fs
 letter_passes k ls ts x fs o = ap (λ r. and_then r (λ y. check_counted k (ts (nat_abs y)) (nat_abs y) fs)) (cond-true (is_letter ls (x ∷ [])) (good (pos x)) (faulty (reported 20 k 1)) (letter_complete ls (x ∷ []) (x, refl, o)))
 
-line_misread : (k : ℕ) (ls : Bytes) (ts : ℕ → List Kind) (l onw : Bytes) (n i : ℕ) → All (λ x. ¬ (x ≡ 10)) l → Misread ls ts (l ++ (10 ∷ onw)) n i → check_line k ls ts l ≡ faulty (reported n k i)
+line_misread : (k : ℕ) (ls : Bytes) (ts : ℕ → List Kind) (l onw : Bytes) (n i : ℕ) → All (Other 10) l → Misread ls ts (l ++ (10 ∷ onw)) n i → check_line k ls ts l ≡ faulty (reported n k i)
 line_misread k ls ts l onw n i a (unended w) = absurd (not_ended 10 l onw w)
 line_misread k ls ts l onw n i a (wrong_letter f fs s b) = line_started k ls ts l onw f fs a s ∙ ap (λ r. and_then r (λ y. check_counted k (ts (nat_abs y)) (nat_abs y) fs)) (field_bad (one_of ls) k 1 20 f (refl, b))
 line_misread k ls ts l onw n i a (wrong_count x fs s o b) = line_started k ls ts l onw (x ∷ []) fs a s ∙ (letter_passes k ls ts x fs o ∙ cond-false (eqb (length fs) (length (ts x))) _ _ (ne_eqb (length fs) (length (ts x)) b))
@@ -186,5 +188,5 @@ line_misread k ls ts l onw n i a (wrong_field x fs j q s o c in-it b d) =
 
 pub line_faults_are_exact_lem : LineFaultsAreExact
 line_faults_are_exact_lem k ls ts l onw f w =
-    let a = index_all (λ x. ¬ (x ≡ 10)) l w in
+    let a = All-from_get_or (Other 10) l 0 w in
     ((λ h. line_fail k ls ts l onw f a h), (λ h. line_misread k ls ts l onw h.0 h.1 a h.3 ∙ ap faulty (sym h.2)))

@@ -1,6 +1,8 @@
 -- Fields and lines that pass: their bytes and their values determine each other.
 use Rattle.std.proofs.Common.{◌≡◌, ℕ, suc, ◌≤◌, Bool, true, false, cond, ◌&&◌, eqb, leb, List, [], ◌∷◌, ◌++◌, length, get_or, ℤ, pos, negsuc, nat_abs, sym, refl, ap, ◌∙◌, subst, inl, inr, ⊎_elim, append_assoc, arith, lit≤, length-append}
 use lib.Seq.{get_or-append_seam}
+use Rattle.std.specs.List.{All}
+use Rattle.std.proofs.lemmas.List.Elements.{All-nil, All-cons, All-weaker}
 use Rattle.std.proofs.lemmas.Bool.{eq-eqb, and_parts, and_from, cond-true, le-leb, leb-true, or_cases}
 use Rattle.fields.specs.Numerals.{Bytes, numeral, signed, value, signed_value}
 use Rattle.fields.specs.Lines.{same, split, joined}
@@ -8,8 +10,8 @@ use Rattle.fields.specs.Kinds.{Kind, LetterOf}
 use Rattle.fields.specs.Kinds.Kind.{one_of, from_to, either_way}
 use Rattle.fields.specs.Checking.{Reported, reported, Checked, and_then, is_letter, check_field, check_fields, check_line}
 use Rattle.fields.specs.Checking.Checked.{good, faulty}
-use Rattle.fields.proofs.Digits.{All, numeral_all, value_numeral, value_signed, same_sound, same_itself}
-use Rattle.fields.proofs.Splitting.{Each, each_map, joined_split, split_joined}
+use Rattle.fields.proofs.Digits.{numeral_all, value_numeral, value_signed, same_sound, same_itself}
+use Rattle.fields.proofs.Splitting.{Other, joined_split, split_joined}
 
 pub good_same : {A : Type 0} (x z : A) → good x ≡ good z → x ≡ z
 good_same x z h = cc
@@ -30,9 +32,8 @@ pub numeral_dark : (n : ℕ) → All Dark (numeral n)
 numeral_dark n = numeral_all Dark (λ d h. omega arith) n
 
 pub signed_dark : (z : ℤ) → All Dark (signed z)
-unfolding All
 signed_dark (pos n) = numeral_dark n
-signed_dark (negsuc n) = (lit≤ tt, numeral_dark (suc n))
+signed_dark (negsuc n) = All-cons Dark 45 (numeral (suc n)) (lit≤ tt) (numeral_dark (suc n))
 
 pub check_number : (k i a b n : ℕ) → a ≤ n → n ≤ b → check_field k i (from_to a b) (numeral n) ≡ good (pos n)
 check_number k i a b n p q = subst (λ v. cond (same (numeral n) (numeral v)) (cond (leb a v && leb v b) (good (pos v)) (faulty (reported 23 k i))) (faulty (reported 22 k i)) ≡ good (pos n)) (sym (value_numeral n)) (cond-true (same (numeral n) (numeral n)) _ _ (same_itself (numeral n)) ∙ cond-true (leb a n && leb n b) _ _ (and_from (leb a n) (leb n b) (le-leb a n p) (le-leb n b q)))
@@ -49,9 +50,8 @@ pub passes : {k i : ℕ} {ts : List Kind} {fs : List Bytes} {zs : List ℤ} → 
 passes none = refl
 passes {k} (one {i} {t} {f} {z} {ts} {fs} {zs} h r) = ap (λ x. and_then x (λ y. and_then (check_fields k (suc i) ts fs) (λ ys. good (y ∷ ys)))) h ∙ ap (λ x. and_then x (λ ys. good (z ∷ ys))) (passes r)
 
-pub line_good : (k l : ℕ) (ls : Bytes) (ts : ℕ → List Kind) (fs : List Bytes) (zs : List ℤ) → Dark l → Each Dark fs → is_letter ls (l ∷ []) ≡ true → length fs ≡ length (ts l) → Passes k 2 (ts l) fs zs → check_line k ls ts (joined 9 (l ∷ []) fs) ≡ good (l, zs)
-unfolding All
-line_good k l ls ts fs zs d ds e n h = ap (λ p. and_then (check_field k 1 (one_of ls) p.0) (λ y. cond (eqb (length p.1) (length (ts (nat_abs y)))) (and_then (check_fields k 2 (ts (nat_abs y)) p.1) (λ ys. good (nat_abs y, ys))) (faulty (reported 21 k 0)))) (split_joined 9 (l ∷ []) fs ((λ q. omega arith), tt) (each_map Dark (λ x. ¬ (x ≡ 9)) (λ x g q. omega arith) fs ds)) ∙ (ap (λ r. and_then r (λ y. cond (eqb (length fs) (length (ts (nat_abs y)))) (and_then (check_fields k 2 (ts (nat_abs y)) fs) (λ ys. good (nat_abs y, ys))) (faulty (reported 21 k 0)))) (cond-true (is_letter ls (l ∷ [])) (good (pos l)) (faulty (reported 20 k 1)) e) ∙ (cond-true (eqb (length fs) (length (ts l))) _ _ (eq-eqb (length fs) (length (ts l)) n) ∙ ap (λ r. and_then r (λ ys. good (l, ys))) (passes h)))
+pub line_good : (k l : ℕ) (ls : Bytes) (ts : ℕ → List Kind) (fs : List Bytes) (zs : List ℤ) → Dark l → All (All Dark) fs → is_letter ls (l ∷ []) ≡ true → length fs ≡ length (ts l) → Passes k 2 (ts l) fs zs → check_line k ls ts (joined 9 (l ∷ []) fs) ≡ good (l, zs)
+line_good k l ls ts fs zs d ds e n h = ap (λ p. and_then (check_field k 1 (one_of ls) p.0) (λ y. cond (eqb (length p.1) (length (ts (nat_abs y)))) (and_then (check_fields k 2 (ts (nat_abs y)) p.1) (λ ys. good (nat_abs y, ys))) (faulty (reported 21 k 0)))) (split_joined 9 (l ∷ []) fs (All-cons (Other 9) l [] (λ q. omega arith) (All-nil (Other 9))) (All-weaker (All Dark) (All (Other 9)) (All-weaker Dark (Other 9) (λ x g q. omega arith)) fs ds)) ∙ (ap (λ r. and_then r (λ y. cond (eqb (length fs) (length (ts (nat_abs y)))) (and_then (check_fields k 2 (ts (nat_abs y)) fs) (λ ys. good (nat_abs y, ys))) (faulty (reported 21 k 0)))) (cond-true (is_letter ls (l ∷ [])) (good (pos l)) (faulty (reported 20 k 1)) e) ∙ (cond-true (eqb (length fs) (length (ts l))) _ _ (eq-eqb (length fs) (length (ts l)) n) ∙ ap (λ r. and_then r (λ ys. good (l, ys))) (passes h)))
 
 -- the bytes of a field of which the value is known
 abbrev pub bytes_for : Kind → ℤ → Bytes

@@ -1,5 +1,6 @@
 -- A line passes exactly where its letter and all its fields are good.
 use Rattle.std.proofs.Common.{◌≡◌, ℕ, zero, suc, true, eqb, ◌⊎◌, List, [], ◌∷◌, ◌++◌, length, get_or, ℤ, pos, nat_abs, refl, ap, ◌∙◌, subst, inl, inr, arith}
+use Rattle.std.specs.List.{All}
 use Rattle.std.proofs.lemmas.Bool.{eq-eqb, cond-true}
 use Rattle.fields.specs.Numerals.{Bytes}
 use Rattle.fields.specs.Lines.{split, joined, Without, Starts}
@@ -8,8 +9,7 @@ use Rattle.fields.specs.Kinds.Kind.{one_of}
 use Rattle.fields.specs.Kinds.Misread.{unended, wrong_letter, wrong_count, wrong_field}
 use Rattle.fields.specs.Checking.{reported, and_then, is_letter, check_field, check_fields, check_line}
 use Rattle.fields.specs.Checking.Checked.{good}
-use Rattle.fields.proofs.Digits.{All}
-use Rattle.fields.proofs.Splitting.{starts, started}
+use Rattle.fields.proofs.Splitting.{Other, starts, started}
 use Rattle.fields.proofs.Faultless.{good_same, cond_good, then_good, letter_one, field_sound, fields_say, spelled}
 use Rattle.fields.proofs.Faulted.{field_fine, field_passes, check_counted, line_started, letter_passes}
 
@@ -41,7 +41,7 @@ pub record LineGood (ls : Bytes) (ts : ℕ → List Kind) (bs : Bytes) (y : ℕ 
   pub all_good : AllGood (ts y.0) fields
   pub spell : fields ≡ spelled (ts y.0) 0 y.1
 
-pub line_fine : (k : ℕ) (ls : Bytes) (ts : ℕ → List Kind) (l onw : Bytes) (y : ℕ × List ℤ) → All (λ x. ¬ (x ≡ 10)) l → check_line k ls ts l ≡ good y → LineGood ls ts (l ++ (10 ∷ onw)) y
+pub line_fine : (k : ℕ) (ls : Bytes) (ts : ℕ → List Kind) (l onw : Bytes) (y : ℕ × List ℤ) → All (Other 10) l → check_line k ls ts l ≡ good y → LineGood ls ts (l ++ (10 ∷ onw)) y
 line_fine k ls ts l onw y a h =
     let g = (split 9 l).0 in let gs = (split 9 l).1 in
     let u = then_good (check_field k 1 (one_of ls) g) (λ v. check_counted k (ts (nat_abs v)) (nat_abs v) gs) y h in
@@ -58,13 +58,13 @@ line_fine k ls ts l onw y a h =
       spell = (fields_say (ts x) gs k 2 [] d.0 d.1).0;
     })
 
-pub line_passes : (k : ℕ) (ls : Bytes) (ts : ℕ → List Kind) (l onw : Bytes) (x : ℕ) (fs : List Bytes) → All (λ y. ¬ (y ≡ 10)) l → Starts (l ++ (10 ∷ onw)) (x ∷ []) fs → LetterOf ls x → AllGood (ts x) fs → (zs : List ℤ) × (check_line k ls ts l ≡ good (x, zs)) × (fs ≡ spelled (ts x) 0 zs)
+pub line_passes : (k : ℕ) (ls : Bytes) (ts : ℕ → List Kind) (l onw : Bytes) (x : ℕ) (fs : List Bytes) → All (Other 10) l → Starts (l ++ (10 ∷ onw)) (x ∷ []) fs → LetterOf ls x → AllGood (ts x) fs → (zs : List ℤ) × (check_line k ls ts l ≡ good (x, zs)) × (fs ≡ spelled (ts x) 0 zs)
 line_passes k ls ts l onw x fs a s o g =
     let r = fields_pass (ts x) fs k 2 g in
     (r.0, line_started k ls ts l onw (x ∷ []) fs a s ∙ (letter_passes k ls ts x fs o ∙ (cond-true (eqb (length fs) (length (ts x))) _ _ (eq-eqb (length fs) (length (ts x)) g.0) ∙ ap (λ z. and_then z (λ ys. good (x, ys))) r.1)), (fields_say (ts x) fs k 2 [] r.0 r.1).0)
 
 -- a line that is misread is ended, or no newline is left
-pub misread_line : (ls : Bytes) (ts : ℕ → List Kind) (bs : Bytes) (n i : ℕ) → Misread ls ts bs n i → (Without 10 bs × (n ≡ 26) × (i ≡ 0)) ⊎ ((l : Bytes) × (onw : Bytes) × All (λ x. ¬ (x ≡ 10)) l × (bs ≡ l ++ (10 ∷ onw)))
+pub misread_line : (ls : Bytes) (ts : ℕ → List Kind) (bs : Bytes) (n i : ℕ) → Misread ls ts bs n i → (Without 10 bs × (n ≡ 26) × (i ≡ 0)) ⊎ ((l : Bytes) × (onw : Bytes) × All (Other 10) l × (bs ≡ l ++ (10 ∷ onw)))
 misread_line ls ts bs n i (unended w) = inl (w, refl, refl)
 misread_line ls ts bs n i (wrong_letter f fs s b) = inr (joined 9 f fs, s.more, (started bs f fs s).0, s.whole)
 misread_line ls ts bs n i (wrong_count x fs s o b) = inr (joined 9 (x ∷ []) fs, s.more, (started bs (x ∷ []) fs s).0, s.whole)
