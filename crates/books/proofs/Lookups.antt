@@ -35,24 +35,25 @@ listed_hit es s x j i up l a b d =
     listed_at es s x j i l (λ k m. about_not (get_or es k no_record) s x j (λ p. let u = up k i m l in omega arith)) (about_from (get_or es i no_record) s x j a b d)
 
 module _ (es : List Record) (m w : ℕ) (up : KeysRise es) (stand : StandBefore es w m) where
+  -- no record of a place that none from m on is of
+  pub missed : (s x j : ℕ) → w ≤ rank s x j → ((i : ℕ) → m ≤ i → i < length es → ((get_or es i no_record).condition ≡ s) × ((get_or es i no_record).remedy ≡ x) × ((get_or es i no_record).next ≡ j) → ⊥) → listed es s x j ≡ no_record
+  missed s x j e away = listed_none es s x j (λ i l. about_not (get_or es i no_record) s x j (λ p.
+      ⊎_elim (λ b. let u = stand.below i b in omega arith) (λ b. away i b l p) (cases_lt i m)))
+
   pub listed_miss : (s x j : ℕ) → w ≡ rank s x j → (m < length es → ((get_or es m no_record).condition ≡ s) × ((get_or es m no_record).remedy ≡ x) × ((get_or es m no_record).next ≡ j) → ⊥) → listed es s x j ≡ no_record
-  listed_miss s x j e away = listed_none es s x j (λ i l. about_not (get_or es i no_record) s x j (λ p.
-      ⊎_elim (λ b. let u = stand.below i b in omega arith)
-      (λ b. ⊎_elim
+  listed_miss s x j e away = missed s x j (omega arith) (λ i b l p.
+      ⊎_elim
       (λ (a : m < i). let u = up m i a l in let v = stand.above m (omega arith) (omega arith) in omega arith)
       (λ (a : i ≤ m). let same : i ≡ m = omega arith in let P : ℕ → Type 0 = λ k. ((get_or es k no_record).condition ≡ s) × ((get_or es k no_record).remedy ≡ x) × ((get_or es k no_record).next ≡ j) in away (omega arith) (subst P same p))
       (cases_lt m i))
-      (cases_lt i m)))
 
   -- no record of a row that the record at m is not of
   pub row_miss : (s x j : ℕ) → w ≡ rank s x 0 → AllPlaced 32 8 es → (m < length es → ((get_or es m no_record).condition ≡ s) × ((get_or es m no_record).remedy ≡ x) → ⊥) → listed es s x j ≡ no_record
-  row_miss s x j e placed away = listed_none es s x j (λ i l. about_not (get_or es i no_record) s x j (λ p.
-      ⊎_elim (λ b. let u = stand.below i b in omega arith)
-      (λ b. ⊎_elim
+  row_miss s x j e placed away = missed s x j (omega arith) (λ i b l p.
+      ⊎_elim
       (λ (a : m < i). let u = up m i a l in let v = stand.above m (omega arith) (omega arith) in let q = placed m (omega arith) in let t = placed i l in away (omega arith) (omega arith, omega arith))
       (λ (a : i ≤ m). let same : i ≡ m = omega arith in let P : ℕ → Type 0 = λ k. ((get_or es k no_record).condition ≡ s) × ((get_or es k no_record).remedy ≡ x) in away (omega arith) (subst P same (p.0, p.1)))
       (cases_lt m i))
-      (cases_lt i m)))
 
 pub above_at : (f : ℕ → ℕ) (n k : ℕ) → k < n → 0 < f k → some_above f n ≡ true
 above_at f zero k l e = absurd (omega arith)
