@@ -1,6 +1,7 @@
 -- What a look-up in a list of records finds.
 use Rattle.std.proofs.Common.{◌≡◌, ℕ, zero, suc, ◌<◌, ◌≤◌, true, false, ltb, List, [], ◌∷◌, length, get_or, refl, ◌∙◌, subst, ⊎_elim, arith}
-use Rattle.std.proofs.lemmas.Bool.{cond-true, cond-false, cases_Bool, and_parts, and_from, eqb-true, eq-eqb, cases_lt, or_left, or_right, or_from, lt-ltb, le-ltb}
+use Rattle.std.proofs.lemmas.Bool.{cond-true, cond-false, cases_Bool, cases_lt, or_left, or_right, or_from, lt-ltb, le-ltb}
+use Rattle.std.proofs.lemmas.Bool.Decides.{nat_tests}
 use Rattle.books.specs.declared.record.Record.{Record}
 use Rattle.books.specs.Alike.{some_above}
 use Rattle.books.specs.Entries.{no_record, AllPlaced, StandBefore, rank, KeysRise}
@@ -18,13 +19,10 @@ listed_at (d ∷ es) s x j (suc i) l h e =
     cond-false (about d s x j) d (listed es s x j) (h 0 (omega arith)) ∙ listed_at es s x j i (omega arith) (λ k m. h (suc k) (omega arith)) e
 
 about_parts : (e : Record) (s x j : ℕ) → about e s x j ≡ true → (e.condition ≡ s) × (e.remedy ≡ x) × (e.next ≡ j)
-about_parts e s x j h =
-    let p = and_parts _ _ h in
-    let q = and_parts _ _ p.0 in
-    (eqb-true _ _ q.0, eqb-true _ _ q.1, eqb-true _ _ p.1)
+about_parts e s x j h = grind (arith, nat_tests)
 
 pub about_from : (e : Record) (s x j : ℕ) → e.condition ≡ s → e.remedy ≡ x → e.next ≡ j → about e s x j ≡ true
-about_from e s x j a b d = and_from _ _ (and_from _ _ (eq-eqb _ _ a) (eq-eqb _ _ b)) (eq-eqb _ _ d)
+about_from e s x j a b d = grind (arith, nat_tests)
 
 pub about_not : (e : Record) (s x j : ℕ) → ((e.condition ≡ s) × (e.remedy ≡ x) × (e.next ≡ j) → ⊥) → about e s x j ≡ false
 about_not e s x j ne = ⊎_elim (λ h. absurd (ne (about_parts e s x j h))) (λ h. h) (cases_Bool (about e s x j))

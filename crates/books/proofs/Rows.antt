@@ -1,6 +1,6 @@
 -- The records of a row are its outcomes.
 use Rattle.std.proofs.Common.{◌≡◌, ℕ, zero, suc, ◌+◌, ◌<◌, ◌≤◌, Bool, true, false, cond, ◌&&◌, ltb, List, [], ◌∷◌, ◌++◌, length, get_or, pos, sym, refl, ap, ◌∙◌, subst, ⊎_elim, arith}
-use Rattle.std.proofs.lemmas.Bool.{cond-true, cond-false, and_from, and_parts, ltb-true, cases_lt, cases_order, lt-ltb, le-ltb}
+use Rattle.std.proofs.lemmas.Bool.{cond-true, cond-false, and_from, and_parts, ltb-true, cases_lt, lt-ltb, le-ltb}
 use Rattle.model.specs.Model.{Model}
 use Rattle.model.specs.Rows.{outcome, outcomes}
 use Rattle.model.specs.declared.row.Outcome.{Outcome}
@@ -26,14 +26,7 @@ skip_to m n s x (suc t) j l none =
 
 -- a record at or after a place of a row, and not of the row, is after the row
 past_row : (e : Record) (s x j : ℕ) → x < 8 → e.remedy < 8 → e.next < 32 → rank s x j ≤ key e → ((e.condition ≡ s) × (e.remedy ≡ x) → ⊥) → rank s x 32 ≤ key e
-past_row e s x j xl rl nl l away =
-    ⊎_elim
-    (λ (p : e.condition ≡ s). ⊎_elim
-    (λ (q : e.remedy ≡ x). absurd (away (p, q)))
-    (⊎_elim (λ (q : e.remedy < x). omega arith) (λ (q : x < e.remedy). omega arith))
-    (cases_order e.remedy x))
-    (⊎_elim (λ (p : e.condition < s). omega arith) (λ (p : s < e.condition). omega arith))
-    (cases_order e.condition s)
+past_row e s x j xl rl nl l away = grind arith
 
 module _ (book : ListBook) (n s x : ℕ) where
   -- outside the sizes a row has no outcome
