@@ -1,6 +1,6 @@
 -- What a look-up in a list of records finds.
 use Rattle.std.proofs.Common.{◌≡◌, ℕ, zero, suc, ◌<◌, ◌≤◌, true, false, ltb, List, [], ◌∷◌, length, get_or, refl, ◌∙◌, subst, ⊎_elim, arith}
-use Rattle.std.proofs.lemmas.Bool.{cond-true, cond-false, cases_Bool, cases_lt, or_left, or_right, or_from, lt-ltb, le-ltb}
+use Rattle.std.proofs.lemmas.Bool.{cond-true, cond-false, cases_lt, or_left, or_right, lt-ltb}
 use Rattle.std.proofs.lemmas.Bool.Decides.{nat_tests}
 use Rattle.books.specs.declared.record.Record.{Record}
 use Rattle.books.specs.Alike.{some_above}
@@ -25,7 +25,7 @@ pub about_from : (e : Record) (s x j : ℕ) → e.condition ≡ s → e.remedy �
 about_from e s x j a b d = grind (arith, nat_tests)
 
 pub about_not : (e : Record) (s x j : ℕ) → ((e.condition ≡ s) × (e.remedy ≡ x) × (e.next ≡ j) → ⊥) → about e s x j ≡ false
-about_not e s x j ne = ⊎_elim (λ h. absurd (ne (about_parts e s x j h))) (λ h. h) (cases_Bool (about e s x j))
+about_not e s x j ne = grind (arith, nat_tests)
 
 -- the record at i is the one that is found
 pub listed_hit : (es : List Record) (s x j i : ℕ) → KeysRise es → i < length es → (get_or es i no_record).condition ≡ s → (get_or es i no_record).remedy ≡ x → (get_or es i no_record).next ≡ j → listed es s x j ≡ get_or es i no_record
@@ -60,4 +60,4 @@ above_at f (suc n) k l e =
 
 pub above_none : (f : ℕ → ℕ) (n : ℕ) → ((k : ℕ) → k < n → f k ≡ 0) → some_above f n ≡ false
 above_none f zero h = refl
-above_none f (suc n) h = let e = h n (omega arith) in or_from (some_above f n) (ltb 0 (f n)) (above_none f n (λ k l. h k (omega arith))) (le-ltb _ _ (omega arith))
+above_none f (suc n) h = let e = h n (omega arith) in let rest = above_none f n (λ k l. h k (omega arith)) in grind (arith, nat_tests)
