@@ -3,11 +3,13 @@ use Rattle.std.proofs.Common.{◌≡◌, ℕ, zero, suc, ◌<◌, ◌≤◌, Boo
 use mathlib.Core.Path.{fun_ext}
 use lib.Arith.{digits_lt}
 use Rattle.std.specs.List.{All}
-use Rattle.std.proofs.lemmas.Bool.{cond-true, cond-false, and_parts, ltb-true, cases_lt}
+use Rattle.std.proofs.lemmas.Bool.{cond-true, cond-false, cases_lt}
 use Rattle.std.proofs.lemmas.List.Elements.{All-nil, All-cons}
+use Rattle.model.specs.Model.{offers}
 use Rattle.books.specs.declared.record.Record.{Record}
 use Rattle.books.specs.Alike.{inside, some_above, alike}
 use Rattle.books.specs.Entries.{no_record}
+use Rattle.books.specs.Lawfuls.{inside_so, outcome_inside}
 use Rattle.books.specs.Listed.{about, listed}
 use Rattle.books.specs.Tables.{spot}
 use Rattle.books.proofs.Lookups.{about_not, about_from}
@@ -75,21 +77,15 @@ same_above f g zero h = refl
 same_above f g (suc n) h =
     ap (λ (b : Bool). b || ltb 0 (f n)) (same_above f g n (λ k l. h k (omega arith))) ∙ ap (λ (m : ℕ). some_above g n || ltb 0 m) (h n (omega arith))
 
-two : (c r n s x : ℕ) → inside c r n s x ≡ true → (s < c) × (x < r)
-two c r n s x h =
-    let p = and_parts _ (ltb x r) h in
-    let q = and_parts _ (ltb s c) p.0 in
-    (ltb-true s c q.1, ltb-true x r p.1)
-
 -- only what is inside the sizes counts
 alike_same : (c r parts : ℕ) (f g : ℕ → ℕ → ℕ → ℕ) (h k : ℕ → ℕ → ℕ → ℤ) (worth : ℕ → ℤ) → ((s x j : ℕ) → s < c → x < r → j < c → f s x j ≡ g s x j) → ((s x j : ℕ) → s < c → x < r → j < c → h s x j ≡ k s x j) → alike c r parts f h worth ≡ alike c r parts g k worth
 alike_same c r parts f g h k worth shares amounts = λ i. record {
   conditions = c;
   remedies = r;
   parts = parts;
-  offered = fun_ext (λ n. fun_ext (λ s. fun_ext (λ x. same_and (inside c r n s x) _ _ (λ t. let p = two c r n s x t in same_above (f s x) (g s x) c (λ j l. shares s x j p.0 p.1 l))))) i;
-  share = fun_ext (λ n. fun_ext (λ s. fun_ext (λ x. fun_ext (λ j. same_arm (inside c r n s x && ltb j c) _ _ 0 (λ t. let q = and_parts _ (ltb j c) t in let p = two c r n s x q.0 in shares s x j p.0 p.1 (ltb-true j c q.1)))))) i;
-  amount = fun_ext (λ n. fun_ext (λ s. fun_ext (λ x. fun_ext (λ j. same_arm (inside c r n s x && ltb j c) _ _ (pos 0) (λ t. let q = and_parts _ (ltb j c) t in let p = two c r n s x q.0 in amounts s x j p.0 p.1 (ltb-true j c q.1)))))) i;
+  offered = fun_ext (λ n. fun_ext (λ s. fun_ext (λ x. same_and (inside c r n s x) _ _ (λ t. let p = inside_so (offers (alike c r parts f h worth)) n s x t in same_above (f s x) (g s x) c (λ j l. shares s x j p.some_condition p.some_remedy l))))) i;
+  share = fun_ext (λ n. fun_ext (λ s. fun_ext (λ x. fun_ext (λ j. same_arm (inside c r n s x && ltb j c) _ _ 0 (λ t. let p = outcome_inside (offers (alike c r parts f h worth)) n s x j t in shares s x j p.0.some_condition p.0.some_remedy p.1))))) i;
+  amount = fun_ext (λ n. fun_ext (λ s. fun_ext (λ x. fun_ext (λ j. same_arm (inside c r n s x && ltb j c) _ _ (pos 0) (λ t. let p = outcome_inside (offers (alike c r parts f h worth)) n s x j t in amounts s x j p.0.some_condition p.0.some_remedy p.1))))) i;
   worth = λ s. cond (ltb s c) (worth s) (pos 0);
 }
 

@@ -1,6 +1,7 @@
 -- What a look-up in a list of records finds.
 use Rattle.std.proofs.Common.{◌≡◌, ℕ, zero, suc, ◌<◌, ◌≤◌, true, false, ltb, List, [], ◌∷◌, length, get_or, refl, ◌∙◌, subst, ⊎_elim, arith}
-use Rattle.std.proofs.lemmas.Bool.{cond-true, cond-false, cases_Bool, and_parts, and_from, eqb-true, eq-eqb, cases_lt, or_left, or_right, or_from, lt-ltb, le-ltb}
+use Rattle.std.proofs.lemmas.Bool.{cond-true, cond-false, cases_lt, or_left, or_right, lt-ltb}
+use Rattle.std.proofs.lemmas.Bool.Decides.{nat_tests}
 use Rattle.books.specs.declared.record.Record.{Record}
 use Rattle.books.specs.Alike.{some_above}
 use Rattle.books.specs.Entries.{no_record, AllPlaced, StandBefore, rank, KeysRise}
@@ -18,16 +19,13 @@ listed_at (d ∷ es) s x j (suc i) l h e =
     cond-false (about d s x j) d (listed es s x j) (h 0 (omega arith)) ∙ listed_at es s x j i (omega arith) (λ k m. h (suc k) (omega arith)) e
 
 about_parts : (e : Record) (s x j : ℕ) → about e s x j ≡ true → (e.condition ≡ s) × (e.remedy ≡ x) × (e.next ≡ j)
-about_parts e s x j h =
-    let p = and_parts _ _ h in
-    let q = and_parts _ _ p.0 in
-    (eqb-true _ _ q.0, eqb-true _ _ q.1, eqb-true _ _ p.1)
+about_parts e s x j h = grind (arith, nat_tests)
 
 pub about_from : (e : Record) (s x j : ℕ) → e.condition ≡ s → e.remedy ≡ x → e.next ≡ j → about e s x j ≡ true
-about_from e s x j a b d = and_from _ _ (and_from _ _ (eq-eqb _ _ a) (eq-eqb _ _ b)) (eq-eqb _ _ d)
+about_from e s x j a b d = grind (arith, nat_tests)
 
 pub about_not : (e : Record) (s x j : ℕ) → ((e.condition ≡ s) × (e.remedy ≡ x) × (e.next ≡ j) → ⊥) → about e s x j ≡ false
-about_not e s x j ne = ⊎_elim (λ h. absurd (ne (about_parts e s x j h))) (λ h. h) (cases_Bool (about e s x j))
+about_not e s x j ne = grind (arith, nat_tests)
 
 -- the record at i is the one that is found
 pub listed_hit : (es : List Record) (s x j i : ℕ) → KeysRise es → i < length es → (get_or es i no_record).condition ≡ s → (get_or es i no_record).remedy ≡ x → (get_or es i no_record).next ≡ j → listed es s x j ≡ get_or es i no_record
@@ -35,24 +33,25 @@ listed_hit es s x j i up l a b d =
     listed_at es s x j i l (λ k m. about_not (get_or es k no_record) s x j (λ p. let u = up k i m l in omega arith)) (about_from (get_or es i no_record) s x j a b d)
 
 module _ (es : List Record) (m w : ℕ) (up : KeysRise es) (stand : StandBefore es w m) where
+  -- no record of a place that none from m on is of
+  pub missed : (s x j : ℕ) → w ≤ rank s x j → ((i : ℕ) → m ≤ i → i < length es → ((get_or es i no_record).condition ≡ s) × ((get_or es i no_record).remedy ≡ x) × ((get_or es i no_record).next ≡ j) → ⊥) → listed es s x j ≡ no_record
+  missed s x j e away = listed_none es s x j (λ i l. about_not (get_or es i no_record) s x j (λ p.
+      ⊎_elim (λ b. let u = stand.below i b in omega arith) (λ b. away i b l p) (cases_lt i m)))
+
   pub listed_miss : (s x j : ℕ) → w ≡ rank s x j → (m < length es → ((get_or es m no_record).condition ≡ s) × ((get_or es m no_record).remedy ≡ x) × ((get_or es m no_record).next ≡ j) → ⊥) → listed es s x j ≡ no_record
-  listed_miss s x j e away = listed_none es s x j (λ i l. about_not (get_or es i no_record) s x j (λ p.
-      ⊎_elim (λ b. let u = stand.below i b in omega arith)
-      (λ b. ⊎_elim
+  listed_miss s x j e away = missed s x j (omega arith) (λ i b l p.
+      ⊎_elim
       (λ (a : m < i). let u = up m i a l in let v = stand.above m (omega arith) (omega arith) in omega arith)
       (λ (a : i ≤ m). let same : i ≡ m = omega arith in let P : ℕ → Type 0 = λ k. ((get_or es k no_record).condition ≡ s) × ((get_or es k no_record).remedy ≡ x) × ((get_or es k no_record).next ≡ j) in away (omega arith) (subst P same p))
       (cases_lt m i))
-      (cases_lt i m)))
 
   -- no record of a row that the record at m is not of
   pub row_miss : (s x j : ℕ) → w ≡ rank s x 0 → AllPlaced 32 8 es → (m < length es → ((get_or es m no_record).condition ≡ s) × ((get_or es m no_record).remedy ≡ x) → ⊥) → listed es s x j ≡ no_record
-  row_miss s x j e placed away = listed_none es s x j (λ i l. about_not (get_or es i no_record) s x j (λ p.
-      ⊎_elim (λ b. let u = stand.below i b in omega arith)
-      (λ b. ⊎_elim
+  row_miss s x j e placed away = missed s x j (omega arith) (λ i b l p.
+      ⊎_elim
       (λ (a : m < i). let u = up m i a l in let v = stand.above m (omega arith) (omega arith) in let q = placed m (omega arith) in let t = placed i l in away (omega arith) (omega arith, omega arith))
       (λ (a : i ≤ m). let same : i ≡ m = omega arith in let P : ℕ → Type 0 = λ k. ((get_or es k no_record).condition ≡ s) × ((get_or es k no_record).remedy ≡ x) in away (omega arith) (subst P same (p.0, p.1)))
       (cases_lt m i))
-      (cases_lt i m)))
 
 pub above_at : (f : ℕ → ℕ) (n k : ℕ) → k < n → 0 < f k → some_above f n ≡ true
 above_at f zero k l e = absurd (omega arith)
@@ -61,4 +60,4 @@ above_at f (suc n) k l e =
 
 pub above_none : (f : ℕ → ℕ) (n : ℕ) → ((k : ℕ) → k < n → f k ≡ 0) → some_above f n ≡ false
 above_none f zero h = refl
-above_none f (suc n) h = let e = h n (omega arith) in or_from (some_above f n) (ltb 0 (f n)) (above_none f n (λ k l. h k (omega arith))) (le-ltb _ _ (omega arith))
+above_none f (suc n) h = let e = h n (omega arith) in let rest = above_none f n (λ k l. h k (omega arith)) in grind (arith, nat_tests)

@@ -1,6 +1,5 @@
 -- Only one answer to tables or to a list is right.
-use Rattle.std.proofs.Common.{◌≡◌, ℕ, ◌<◌, ◌⊎◌, Ok, Err, Result, refl, inl, inr, ⊎_elim, arith}
-use Rattle.std.proofs.lemmas.Bool.{cases_order}
+use Rattle.std.proofs.Common.{◌≡◌, ℕ, ◌⊎◌, Ok, Err, Result, refl, ⊎_elim, arith}
 use Rattle.books.specs.declared.refusal.MakingRefusal.{MakingRefusal}
 use Rattle.books.specs.declared.refusal.MakingRefusal.TheVariants.{Size, Entry}
 use Rattle.books.specs.declared.refusal.Table.{Table}
@@ -20,11 +19,7 @@ number_of_one Worths Amounts e = absurd (omega arith)
 number_of_one Worths Worths e = refl
 
 in_order : (t i t' i' : ℕ) → Earlier t i t' i' ⊎ (Earlier t' i' t i ⊎ ((t ≡ t') × (i ≡ i')))
-in_order t i t' i' =
-    ⊎_elim
-    (λ (e : t ≡ t'). ⊎_elim (λ (d : i ≡ i'). inr (inr (e, d))) (⊎_elim (λ (l : i < i'). inl (inr (e, l))) (λ (l : i' < i). let f : t' ≡ t = cc in inr (inl (inr (f, l))))) (cases_order i i'))
-    (⊎_elim (λ (l : t < t'). inl (inl l)) (λ (l : t' < t). inr (inl (inl l))))
-    (cases_order t t')
+in_order t i t' i' = grind arith
 
 once : (S : Type 0) (H F : ℕ → ℕ → Type 0) (a b : Result (Unit {0}) MakingRefusal) → Checked S H F a → Checked S H F b → a ≡ b
 once S H F (Ok u) (Ok v) p q = refl

@@ -1,6 +1,6 @@
 -- The records of a row are its outcomes.
 use Rattle.std.proofs.Common.{◌≡◌, ℕ, zero, suc, ◌+◌, ◌<◌, ◌≤◌, Bool, true, false, cond, ◌&&◌, ltb, List, [], ◌∷◌, ◌++◌, length, get_or, pos, sym, refl, ap, ◌∙◌, subst, ⊎_elim, arith}
-use Rattle.std.proofs.lemmas.Bool.{cond-true, cond-false, and_from, and_parts, ltb-true, cases_lt, cases_order, lt-ltb, le-ltb}
+use Rattle.std.proofs.lemmas.Bool.{cond-true, cond-false, and_from, and_parts, ltb-true, cases_lt, lt-ltb, le-ltb}
 use Rattle.model.specs.Model.{Model}
 use Rattle.model.specs.Rows.{outcome, outcomes}
 use Rattle.model.specs.declared.row.Outcome.{Outcome}
@@ -11,7 +11,7 @@ use Rattle.books.specs.Alike.{inside}
 use Rattle.books.specs.Entries.{no_record, outcome_of, StandBefore, rank, key}
 use Rattle.books.specs.Listed.{listed}
 use Rattle.books.specs.Means.{list_means}
-use Rattle.books.proofs.Lookups.{listed_none, listed_hit, about_not}
+use Rattle.books.proofs.Lookups.{listed_hit, missed}
 
 -- shares of 0 add no outcome
 skip_to : (m : Model) (n s x t j : ℕ) → j ≤ t → ((i : ℕ) → j ≤ i → i < t → m.share n s x i ≡ 0) → outcomes m n s x j ≡ outcomes m n s x t
@@ -24,21 +24,9 @@ skip_to m n s x (suc t) j l none =
     (λ (b : suc t ≤ j). let same : j ≡ suc t = omega arith in ap (outcomes m n s x) same)
     (cases_lt j (suc t))
 
--- no record between two places
-gap : (es : List Record) (m lo hi s x j : ℕ) → ((i : ℕ) → i < m → key (get_or es i no_record) < lo) → ((i : ℕ) → m ≤ i → i < length es → hi ≤ key (get_or es i no_record)) → lo ≤ rank s x j → rank s x j < hi → listed es s x j ≡ no_record
-gap es m lo hi s x j below above a b = listed_none es s x j (λ i l. about_not (get_or es i no_record) s x j (λ p.
-    ⊎_elim (λ d. let u = below i d in omega arith) (λ d. let u = above i d l in omega arith) (cases_lt i m)))
-
 -- a record at or after a place of a row, and not of the row, is after the row
 past_row : (e : Record) (s x j : ℕ) → x < 8 → e.remedy < 8 → e.next < 32 → rank s x j ≤ key e → ((e.condition ≡ s) × (e.remedy ≡ x) → ⊥) → rank s x 32 ≤ key e
-past_row e s x j xl rl nl l away =
-    ⊎_elim
-    (λ (p : e.condition ≡ s). ⊎_elim
-    (λ (q : e.remedy ≡ x). absurd (away (p, q)))
-    (⊎_elim (λ (q : e.remedy < x). omega arith) (λ (q : x < e.remedy). omega arith))
-    (cases_order e.remedy x))
-    (⊎_elim (λ (p : e.condition < s). omega arith) (λ (p : s < e.condition). omega arith))
-    (cases_order e.condition s)
+past_row e s x j xl rl nl l away = grind arith
 
 module _ (book : ListBook) (n s x : ℕ) where
   -- outside the sizes a row has no outcome
@@ -68,7 +56,7 @@ module _ (book : ListBook) (n s x : ℕ) where
     -- no share from j to a next condition that the record there does not stand before
     skipped : (t : ℕ) → j ≤ t → t ≤ book.sizes.conditions → (at < length book.listing.records.now → rank s x t ≤ key (get_or book.listing.records.now at no_record)) → outcomes (list_means book) n s x j ≡ outcomes (list_means book) n s x t
     skipped t l m first =
-        skip_to (list_means book) n s x t j l (λ i d q. share_is i (omega arith) ∙ ap (λ (f : Record). f.share) (gap book.listing.records.now at (rank s x j) (rank s x t) s x i stand.below (from_there (rank s x t) first) (omega arith) (omega arith)))
+        skip_to (list_means book) n s x t j l (λ i d q. share_is i (omega arith) ∙ ap (λ (f : Record). f.share) (missed book.listing.records.now at (rank s x j) book.listing.rise stand s x i (omega arith) (λ k a b p. let u = from_there (rank s x t) first k a b in omega arith)))
 
     -- the record there is of another row: the row is at its end
     pub finished : j ≤ book.sizes.conditions → (at < length book.listing.records.now → ((get_or book.listing.records.now at no_record).condition ≡ s) × ((get_or book.listing.records.now at no_record).remedy ≡ x) → ⊥) → outcomes (list_means book) n s x j ≡ outcomes (list_means book) n s x book.sizes.conditions

@@ -25,10 +25,13 @@ inside_so o n s x h =
     let f = and_parts (nat_le 1 n) (nat_le n 48) e.0 in
     record { first_visit = leb-true 1 n f.0; last_visit = leb-true n 48 f.1; some_condition = ltb-true s o.conditions e.1; some_remedy = ltb-true x o.remedies d.1 }
 
+pub outcome_inside : (o : Offers) (n s x j : ℕ) → (inside o.conditions o.remedies n s x && nat_lt j o.conditions) ≡ true → Inside o n s x × (j < o.conditions)
+outcome_inside o n s x j h = let d = and_parts _ (nat_lt j o.conditions) h in (inside_so o n s x d.0, ltb-true j o.conditions d.1)
+
 module _ (c r parts : ℕ) (share : ℕ → ℕ → ℕ → ℕ) (amount : ℕ → ℕ → ℕ → ℤ) (worth : ℕ → ℤ) (sizes : SizesFit c r parts)
     (shares : (s x j : ℕ) → s < c → x < r → j < c → share s x j ≤ parts) (amounts : (s x j : ℕ) → s < c → x < r → j < c → SmallMoney (amount s x j)) (worths : (s : ℕ) → s < c → SmallMoney (worth s)) where
-  five : (n s x j : ℕ) → (inside c r n s x && nat_lt j c) ≡ true → Inside (offers (alike c r parts share amount worth)) n s x × (j < c)
-  five n s x j h = let d = and_parts _ (nat_lt j c) h in (inside_so (offers (alike c r parts share amount worth)) n s x d.0, ltb-true j c d.1)
+  abbrev rows : Offers
+  rows = offers (alike c r parts share amount worth)
 
   alike_lawful : Lawful (alike c r parts share amount worth)
   alike_lawful = record {
@@ -38,12 +41,12 @@ module _ (c r parts : ℕ) (share : ℕ → ℕ → ℕ → ℕ) (amount : ℕ �
     few_remedies = sizes.few_remedies;
     some_parts = sizes.some_parts;
     few_parts = sizes.few_parts;
-    share_fits = λ n s x j. cond_both (inside c r n s x && nat_lt j c) (share s x j) 0 (λ z. z ≤ parts) (λ h. let i = five n s x j h in shares s x j i.0.some_condition i.0.some_remedy i.1) (λ _. omega arith);
-    amount_fits = λ n s x j. cond_both (inside c r n s x && nat_lt j c) (amount s x j) (pos 0) Money (λ h. let i = five n s x j h in small_money _ (amounts s x j i.0.some_condition i.0.some_remedy i.1)) (λ _. nothing);
+    share_fits = λ n s x j. cond_both (inside c r n s x && nat_lt j c) (share s x j) 0 (λ z. z ≤ parts) (λ h. let i = outcome_inside rows n s x j h in shares s x j i.0.some_condition i.0.some_remedy i.1) (λ _. omega arith);
+    amount_fits = λ n s x j. cond_both (inside c r n s x && nat_lt j c) (amount s x j) (pos 0) Money (λ h. let i = outcome_inside rows n s x j h in small_money _ (amounts s x j i.0.some_condition i.0.some_remedy i.1)) (λ _. nothing);
     worth_fits = λ s. cond_both (nat_lt s c) (worth s) (pos 0) Money (λ h. small_money _ (worths s (ltb-true s c h))) (λ _. nothing);
-    offered_inside = λ n s x h. inside_so (offers (alike c r parts share amount worth)) n s x (and_parts _ (some_above (share s x) c) (is_true _ h)).0;
-    share_inside = λ n s x j h. five n s x j (is_true _ (some_of _ (share s x j) h));
-    amount_inside = λ n s x j h. five n s x j (is_true _ (taken _ (amount s x j) (pos 0) h));
+    offered_inside = λ n s x h. inside_so rows n s x (and_parts _ (some_above (share s x) c) (is_true _ h)).0;
+    share_inside = λ n s x j h. outcome_inside rows n s x j (is_true _ (some_of _ (share s x j) h));
+    amount_inside = λ n s x j h. outcome_inside rows n s x j (is_true _ (taken _ (amount s x j) (pos 0) h));
     worth_inside = λ s h. ltb-true s c (is_true _ (taken (nat_lt s c) (worth s) (pos 0) h));
   }
 

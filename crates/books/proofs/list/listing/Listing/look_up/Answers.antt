@@ -1,9 +1,9 @@
-use Rattle.std.proofs.Common.{◌≡◌, ℕ, ◌<◌, ◌≤◌, Bool, true, false, ◌&&◌, eqb, List, length, get_or, Option, Some, None, MatchOption, refl, sym, ap, ◌∙◌, subst, arith, rules}
+use Rattle.std.proofs.Common.{◌≡◌, ℕ, ◌<◌, ◌≤◌, Bool, true, false, ◌&&◌, eqb, List, length, get_or, Option, Some, None, MatchOption, refl, sym, ◌∙◌, subst, arith, rules}
 use borrow.Author.Tests.{tests}
 use denote.Ref.{Bor}
 use Rattle.std.specs.List.{HoldsAt}
 use Rattle.std.specs.Bool.{then_some}
-use Rattle.std.proofs.lemmas.Bool.{and_parts, and_from, eqb-true, eq-eqb}
+use Rattle.std.proofs.lemmas.Bool.Decides.{nat_tests}
 use Rattle.books.specs.declared.record.Record.{Record}
 use Rattle.books.specs.Entries.{no_record, StandBefore, rank, KeysRise}
 use Rattle.books.specs.Listed.{listed}
@@ -16,12 +16,8 @@ module _ (es : List Record) (m s x j : ℕ) (up : KeysRise es) (stand : StandBef
 
   -- the record there, if it is of the place
   tested : (e : Bor Record) (b : Bool) → m < length es → e.now ≡ get_or es m no_record → b ≡ (eqb e.now.condition s && (eqb e.now.remedy x && eqb e.now.next j)) → Found (then_some b e)
-  tested e true l is so =
-      let p = and_parts _ _ (sym so) in
-      let q = and_parts _ _ p.1 in
-      listed_hit es s x j m up l (ap (λ (d : Record). d.condition) (sym is) ∙ eqb-true _ _ p.0) (ap (λ (d : Record). d.remedy) (sym is) ∙ eqb-true _ _ q.0) (ap (λ (d : Record). d.next) (sym is) ∙ eqb-true _ _ q.1) ∙ sym is
-  tested e false l is so = listed_miss es m _ up stand s x j refl (λ k p.
-      let both : false ≡ true = so ∙ and_from _ _ (eq-eqb _ _ (ap (λ (d : Record). d.condition) is ∙ p.0)) (and_from _ _ (eq-eqb _ _ (ap (λ (d : Record). d.remedy) is ∙ p.1)) (eq-eqb _ _ (ap (λ (d : Record). d.next) is ∙ p.2))) in cc)
+  tested e true l is so = listed_hit es s x j m up l (grind (arith, nat_tests)) (grind (arith, nat_tests)) (grind (arith, nat_tests)) ∙ sym is
+  tested e false l is so = listed_miss es m _ up stand s x j refl (λ k p. grind (arith, nat_tests))
 
   -- what is kept of the record there, if there is one
   kept : (o r : Option (Bor Record)) (Told : Bor Record → Bool → Type 0) → MatchOption o (length es ≤ m) (λ e. (m < length es) × HoldsAt (λ y. e.now ≡ y) es m) → MatchOption o (r ≡ None) (λ e. (b : Bool) × Told e b × (r ≡ then_some b e)) → ((e : Bor Record) (b : Bool) → Told e b → b ≡ (eqb e.now.condition s && (eqb e.now.remedy x && eqb e.now.next j))) → Found r
