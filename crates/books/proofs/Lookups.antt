@@ -18,9 +18,6 @@ listed_at (d ∷ es) s x j zero l h e = cond-true (about d s x j) d (listed es s
 listed_at (d ∷ es) s x j (suc i) l h e =
     cond-false (about d s x j) d (listed es s x j) (h 0 (omega arith)) ∙ listed_at es s x j i (omega arith) (λ k m. h (suc k) (omega arith)) e
 
-about_parts : (e : Record) (s x j : ℕ) → about e s x j ≡ true → (e.condition ≡ s) × (e.remedy ≡ x) × (e.next ≡ j)
-about_parts e s x j h = grind (arith, nat_tests)
-
 pub about_from : (e : Record) (s x j : ℕ) → e.condition ≡ s → e.remedy ≡ x → e.next ≡ j → about e s x j ≡ true
 about_from e s x j a b d = grind (arith, nat_tests)
 

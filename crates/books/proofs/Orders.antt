@@ -8,19 +8,21 @@ use Rattle.books.specs.declared.record.Record.{Record}
 use Rattle.books.specs.Entries.{RecordFits, Rising, AllPlaced, StandBefore, rank, key, no_record, KeysRise}
 use Rattle.books.specs.Making.{Entered}
 
--- the order of records is that of their keys, there and back
-module _ (c r parts : ℕ) (d e : Record) (cl : c ≤ 32) (rl : r ≤ 8) (f : RecordFits c r parts d) (g : RecordFits c r parts e) where
-  rising_key : Rising d e → key d < key e
-  rising_key h = grind arith
+-- within the largest sizes the order of records is that of their keys, there and back
+pub rising_key : (d e : Record) → (d.remedy < 8) × (d.next < 32) → (e.remedy < 8) × (e.next < 32) → Rising d e → key d < key e
+rising_key d e (dr, dn) (er, en) h = grind arith
 
-  pub key_rising : key d < key e → Rising d e
-  key_rising l = grind arith
+pub key_rising : (d e : Record) → (d.remedy < 8) × (d.next < 32) → (e.remedy < 8) × (e.next < 32) → key d < key e → Rising d e
+key_rising d e (dr, dn) (er, en) h = grind arith
+
+pub placed_well : {c r parts : ℕ} {e : Record} → c ≤ 32 → r ≤ 8 → RecordFits c r parts e → (e.remedy < 8) × (e.next < 32)
+placed_well cl rl f = let a = f.some_remedy in let b = f.some_next in (omega arith, omega arith)
 
 pub keys_rise : (c r parts : ℕ) (es : List Record) → c ≤ 32 → r ≤ 8 → ((i : ℕ) → i < length es → Entered c r parts es i) → KeysRise es
 keys_rise c r parts es cl rl all i zero l m = absurd (omega arith)
 keys_rise c r parts es cl rl all i (suc j) l m =
     let k : j < length es = omega arith in
-    let step = rising_key c r parts (get_or es j no_record) (get_or es (suc j) no_record) cl rl (all j k).0 (all (suc j) m).0 ((all (suc j) m).1 j refl) in
+    let step = rising_key (get_or es j no_record) (get_or es (suc j) no_record) (placed_well cl rl (all j k).0) (placed_well cl rl (all (suc j) m).0) ((all (suc j) m).1 j refl) in
     ⊎_elim
     (λ b. let u = keys_rise c r parts es cl rl all i j b k in omega arith)
     (λ b. let same : j ≡ i = omega arith in let P : ℕ → Type 0 = λ n. key (get_or es n no_record) < key (get_or es (suc j) no_record) in subst P same step)

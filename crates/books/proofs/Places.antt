@@ -1,5 +1,5 @@
 -- Places of tables, and the numbers of sizes.
-use Rattle.std.proofs.Common.{◌≡◌, ℕ, ◌<◌, ⊎_elim, arith}
+use Rattle.std.proofs.Common.{◌≡◌, ℕ, ◌<◌, arith}
 use Rattle.books.specs.declared.sizes.Sizes.{Sizes}
 use Rattle.books.specs.Making.{InTable}
 
@@ -8,7 +8,7 @@ pub at_numbers : (z : Sizes) (c r p : ℕ) (P : (c r p : ℕ) → Type 0) → (z
 at_numbers z c r p P e h = rw (← e.0, ← e.1, ← e.2) h
 
 pub in_first : (a b w t i : ℕ) → InTable a b w t i → t ≡ 1 → i < a
-in_first a b w t i h e = ⊎_elim (λ p. p.1) (⊎_elim (λ p. absurd (omega arith)) (λ p. absurd (omega arith))) h
+in_first a b w t i h e = grind arith
 
 pub in_third : (a b w t i : ℕ) → InTable a b w t i → t ≡ 3 → i < w
-in_third a b w t i h e = ⊎_elim (λ p. absurd (omega arith)) (⊎_elim (λ p. absurd (omega arith)) (λ p. p.1)) h
+in_third a b w t i h e = grind arith

@@ -7,7 +7,7 @@ use Rattle.books.specs.declared.record.Record.{Record}
 use Rattle.books.specs.Entries.{SmallMoney, RecordFits, Rising, no_record, rank, key}
 use Rattle.books.specs.Tables.{spot}
 use Rattle.books.specs.Kinds.{in_turn, positive, positive_records, PositivesMakeAList}
-use Rattle.books.proofs.Orders.{key_rising}
+use Rattle.books.proofs.Orders.{key_rising, placed_well}
 use Rattle.books.proofs.Places.{in_first, in_third}
 use Rattle.books.proofs.Turns.{all_turn}
 
@@ -68,7 +68,7 @@ positives_make_a_list c r parts shares amounts worths (shaped, fits) =
               let m : suc k < length es = omega arith in
               let n : k < length es = omega arith in
               let P : ℕ → Type 0 = λ i'. Rising (get_or es k no_record) (get_or es i' no_record) in
-              subst P q (key_rising c r parts _ _ sizes.few_conditions sizes.few_remedies (fit k no_record n) (fit (suc k) no_record m) (between_step 0 (rank c 0 0) es k order m)),
+              subst P q (key_rising (get_or es k no_record) (get_or es (suc k) no_record) (placed_well sizes.few_conditions sizes.few_remedies (fit k no_record n)) (placed_well sizes.few_conditions sizes.few_remedies (fit (suc k) no_record m)) (between_step 0 (rank c 0 0) es k order m)),
         )),
         (λ e. (fits 3 i (inr (inr (refl, in_third _ _ _ t i h e)))).2 refl),
       ),
