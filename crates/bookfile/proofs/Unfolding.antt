@@ -4,7 +4,8 @@ use lib.Seq.{get_or_at}
 use Rattle.std.proofs.lemmas.List.Elements.{All-push, All-get_or, All-from_get_or}
 use Rattle.std.proofs.lemmas.Bool.{lt-ltb, le-ltb, cond-true, cond-false, cases_lt, false_from_ne_true}
 use Rattle.books.specs.declared.record.Record.{Record}
-use Rattle.books.specs.Entries.{Rising, no_record, key}
+use Rattle.books.specs.Entries.{no_record, key}
+use Rattle.books.proofs.Orders.{key_rising, rising_key}
 use Rattle.fields.specs.Numerals.{Bytes}
 use Rattle.fields.specs.Lines.{split}
 use Rattle.fields.specs.Checking.{reported, and_then, check_line}
@@ -34,15 +35,6 @@ module _ (m w : ℕ) where
 
   pub later_checked : (b : WrittenBook) (k : ℕ) (t left : Bytes) (y : ℕ × List ℤ) → check_line k (may_stand (middle b)) (form (middle b)) t ≡ good y → and_then (read_line m w (middle b) k t) (λ s'. read_on m w s' (suc k) left) ≡ and_then (enter_line m w (middle b) k y) (λ s'. read_on m w s' (suc k) left)
   later_checked b k t left y h = ap (λ x. and_then (and_then x (enter_line m w (middle b) k)) (λ s'. read_on m w s' (suc k) left)) h
-
--- within the largest sizes a record rises above the last exactly where its key is the least or more
-key_rising : (d e : Record) → PlacedWell d → PlacedWell e → key d < key e → Rising d e
-key_rising d e (dr, dn) (er, en) h = ⊎_elim inl
-    (λ c. let same : d.condition ≡ e.condition = omega arith in inr (same, ⊎_elim inl (λ x. let same' : d.remedy ≡ e.remedy = omega arith in inr (same', omega arith)) (cases_lt d.remedy e.remedy)))
-    (cases_lt d.condition e.condition)
-
-rising_key : (d e : Record) → PlacedWell d → PlacedWell e → Rising d e → key d < key e
-rising_key d e (dr, dn) (er, en) h = ⊎_elim (λ l. omega arith) (λ p. let same : d.condition ≡ e.condition = p.0 in ⊎_elim (λ l. omega arith) (λ q. let same' : d.remedy ≡ e.remedy = q.0 in let lt : d.next < e.next = q.1 in omega arith) p.1) h
 
 least_last : (es : List Record) (k : ℕ) → suc k ≡ length es → least_key es ≡ suc (key (get_or es k no_record))
 least_last [] k h = absurd (omega arith)
