@@ -11,6 +11,7 @@ use super::sizes::Sizes;
 // A book that lists what may happen: records rising by condition, remedy and next condition, and the
 // worths. What is not listed has share 0 and amount 0. `starts` has, for every condition and remedy, how
 // many records stand before theirs, and last how many there are: a row is found without a search.
+// They are numbers, as slices would say the same twice over; records and worths are lent each by itself.
 #[derive(Clone, Copy)]
 pub struct ListBook<'a> {
     sizes: Sizes,

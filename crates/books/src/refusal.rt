@@ -51,7 +51,7 @@ impl MakingRefusal {
         }
     }
 
-    // Where: up to three places, 0 where there is none.
+    // Where: three places are printed of every fault, 0 where there is none.
     pub fn places(&self) -> (usize, usize, usize)
         ensures { result ≡ making_places self.now }
     {

@@ -44,7 +44,7 @@ impl PlanRefusal {
         }
     }
 
-    // Visit, condition and remedy, 0 where it has none.
+    // Visit, condition and remedy: three places are printed of every fault, 0 where there is none.
     pub fn places(&self) -> (usize, usize, usize)
         ensures { result ≡ refusal_places self.now }
     {

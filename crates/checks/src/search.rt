@@ -42,7 +42,8 @@ fn total_share(outcomes: &[Outcome]) -> u32
     outcomes.iter().map(|outcome| outcome.share).sum()
 }
 
-// Whether a remedy is offered there whose shares do not add to the parts; `row` is room for its outcomes.
+// Whether a remedy is offered there whose shares do not add to the parts; `row` is room for its outcomes,
+// apart from the book, as in limit.rt.
 fn is_uneven<B: Book>(
     book: &B,
     visit: usize,

@@ -32,6 +32,7 @@ impl From<FieldFault> for LineFault {
     }
 }
 
+// Each kind of refusal has number and places by itself: nothing is generic over refusals.
 impl FieldFault {
     pub fn number(&self) -> u32
         ensures { result ≡ field_fault_number self.now }

@@ -37,7 +37,8 @@ fn fill_values<B: Book, C: Criterion>(
     }
 }
 
-// Judges a table of remedies: fills the table of its values, or says why not and leaves it.
+// Judges a table of remedies: fills the table of its values, or says why not and leaves it. Each table is lent by
+// itself.
 pub fn judge<B: Book, C: Criterion>(
     book: &B,
     by: &C,

@@ -13,7 +13,7 @@ use criteria::criterion::Criterion;
 use model::Book;
 use model::row::Row;
 
-// Fills both tables, the last visit first.
+// Fills both tables, the last visit first. A judgement walks by itself; judge.rt says why.
 fn fill<B: Book, C: Criterion>(
     book: &B,
     by: &C,

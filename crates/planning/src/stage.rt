@@ -95,7 +95,7 @@ impl<B: Book, C: Criterion> Stage<'_, '_, B, C> {
             MatchOption result (NoneBelow m self.now.visit condition m.remedies) (λ p. Best o m self.now.visit self.now.left condition (at o self.now.later.now) m.remedies p.0 p.1) }
     {
         let mut found = None;
-        // a loop: each turn writes the lent row
+        // a loop: a fold that begins with none and keeps the better is no plainer
         for remedy in 0..self.book.remedies() {
             if self.book.offered(self.visit, condition, remedy) {
                 let value = self.value_under(condition, remedy, row);

@@ -67,7 +67,7 @@ impl<'a> ListBook<'a> {
     }
 }
 
-// The sizes and the worths in one line each, as of a table book: a trait that both share would be longer.
+// The sizes, the worths and the alike visits in one line each, as of a table book: a trait that both share would be longer.
 impl Book for ListBook<'_> {
     ghost model = { list_means };
 

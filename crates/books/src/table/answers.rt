@@ -10,7 +10,7 @@ use crate::limits::last_alike;
 use model::Book;
 
 impl TableBook<'_> {
-    // Where the row of a condition and a remedy starts in the tables.
+    // Where the row of a condition and a remedy starts in the tables: two numbers, as for a row of a list book.
     fn first_of(&self, condition: usize, remedy: usize) -> usize
         requires { (condition < self.now.sizes.conditions) × (remedy < self.now.sizes.remedies) }
         ensures value { result ≡ spot self.now.sizes.conditions self.now.sizes.remedies condition remedy 0 }
@@ -42,7 +42,7 @@ impl TableBook<'_> {
     }
 }
 
-// The sizes and the worths in one line each, as of a list book: a trait that both share would be longer.
+// The sizes, the worths and the alike visits in one line each, as of a list book: a trait that both share would be longer.
 impl Book for TableBook<'_> {
     ghost model = { table_means };
 
