@@ -7,3 +7,4 @@ pub mod Exactness
 pub mod Unfolding
 pub mod Cutting
 pub mod Advancing
+pub mod Writing
