@@ -10,7 +10,7 @@ use Rattle.books.specs.declared.record.Record.{Record}
 use Rattle.books.specs.Entries.{no_record}
 use Rattle.fields.specs.Numerals.{Bytes}
 use Rattle.fields.specs.Lines.{line}
-use Rattle.bookfile.specs.File.{WrittenBook, size_fields, record_fields, worth_fields, record_lines, worth_lines, render}
+use Rattle.bookfile.specs.File.{WrittenBook, size_fields, record_lines, worth_lines, render}
 use Rattle.bookfile.specs.Writing.{record_line, worth_line, lines_of, BeginsWith}
 
 module _ (b : WrittenBook) where
@@ -28,32 +28,46 @@ module _ (b : WrittenBook) where
 
   -- how many lines there are
   pub count_of_lines : length (lines_of b) ≡ length b.records + length b.worths + 2
+  unfolding lines_of
   count_of_lines = let r = long_rs in let w = long_ws in simp length-append (omega arith)
 
-  -- the lines of a record, of a worth, and the last
-  pub record_line_at : (i : ℕ) → i < length b.records → get_or (lines_of b) (suc i) [] ≡ record_line (get_or b.records i no_record)
-  record_line_at i h = let r = long_rs in get_or_append_left rs _ [] i (omega arith) ∙ get_or-map record_line b.records i no_record [] h
+  -- the first line, the lines of records, those of worths, and the last
+  pub first_line : (i : ℕ) → i ≡ 0 → get_or (lines_of b) i [] ≡ line 66 (size_fields b)
+  unfolding lines_of
+  first_line i q = ap (λ n. get_or (lines_of b) n []) q
 
-  pub worth_line_at : (i s : ℕ) → i ≡ suc (length b.records + s) → s < length b.worths → get_or (lines_of b) i [] ≡ worth_line (s, get_or b.worths s (pos 0))
-  worth_line_at i s q h =
+  pub record_line_at : (i : ℕ) → 0 < i → i ≤ length b.records → get_or (lines_of b) i [] ≡ record_line (get_or b.records (i - 1) no_record)
+  unfolding lines_of
+  record_line_at i h l =
+      let r = long_rs in
+      let q : i ≡ suc (i - 1) = omega arith in
+      ap (λ n. get_or (lines_of b) n []) q ∙ get_or_append_left rs _ [] (i - 1) (omega arith) ∙ get_or-map record_line b.records (i - 1) no_record [] (omega arith)
+
+  past_records : (i : ℕ) → length b.records < i → get_or (lines_of b) i [] ≡ get_or (ws ++ (line 69 [] ∷ [])) (i - length b.records - 1) []
+  unfolding lines_of
+  past_records i h =
+      let q : i ≡ suc (i - 1) = omega arith in
+      let at : i - 1 - length b.records ≡ i - length b.records - 1 = omega arith in
+      ap (λ n. get_or (lines_of b) n []) q ∙ get_or-append_right rs _ (length b.records) (i - 1) [] long_rs (omega arith) ∙ ap (λ n. get_or (ws ++ (line 69 [] ∷ [])) n []) at
+
+  pub worth_line_at : (i : ℕ) → length b.records < i → i ≤ length b.records + length b.worths → get_or (lines_of b) i [] ≡ worth_line (i - length b.records - 1, get_or b.worths (i - length b.records - 1) (pos 0))
+  worth_line_at i h l =
       let w = long_ws in
-      let at : length b.records + s - length b.records ≡ s = omega arith in
-      ap (λ n. get_or (lines_of b) n []) q
-      ∙ get_or-append_right rs _ (length b.records) (length b.records + s) [] long_rs (omega arith)
-      ∙ ap (λ n. get_or (ws ++ (line 69 [] ∷ [])) n []) at
+      let s = i - length b.records - 1 in
+      past_records i h
       ∙ get_or_append_left ws _ [] s (omega arith)
       ∙ get_or-map worth_line (enumerate_from 0 b.worths) s (0, pos 0) [] (omega (arith, length-enumerate_from 0 b.worths))
-      ∙ ap worth_line (get_or-enumerate_from 0 b.worths s (0, pos 0) h)
+      ∙ ap worth_line (get_or-enumerate_from 0 b.worths s (0, pos 0) (omega arith))
       ∙ ap (λ n. worth_line (n, get_or b.worths s (pos 0))) (zero-add s)
 
-  pub end_line_at : (i : ℕ) → i ≡ suc (length b.records + length b.worths) → get_or (lines_of b) i [] ≡ line 69 []
-  end_line_at i q =
-      let at : length b.records + length b.worths - length b.records ≡ length b.worths = omega arith in
-      let none : length b.worths - length b.worths ≡ 0 = omega arith in
-      ap (λ n. get_or (lines_of b) n []) q
-      ∙ get_or-append_right rs _ (length b.records) (length b.records + length b.worths) [] long_rs (omega arith)
-      ∙ ap (λ n. get_or (ws ++ (line 69 [] ∷ [])) n []) at
-      ∙ get_or-append_right ws (line 69 [] ∷ []) (length b.worths) (length b.worths) [] long_ws (omega arith)
+  pub last_line : (i : ℕ) → length b.records + length b.worths < i → i < length (lines_of b) → get_or (lines_of b) i [] ≡ line 69 []
+  last_line i h l =
+      let w = long_ws in
+      let s = i - length b.records - 1 in
+      let all = count_of_lines in
+      let none : s - length b.worths ≡ 0 = omega arith in
+      past_records i (omega arith)
+      ∙ get_or-append_right ws (line 69 [] ∷ []) (length b.worths) s [] long_ws (omega arith)
       ∙ ap (λ n. get_or {A = Bytes} (line 69 [] ∷ []) n []) none
 
 concat-records : (es : List Record) → concat (map record_line es) ≡ record_lines es
@@ -68,6 +82,7 @@ concat-worths s (z ∷ zs) =
 
 -- the lines joined are the file
 pub concat-lines_of : (b : WrittenBook) → concat (lines_of b) ≡ render b
+unfolding lines_of
 concat-lines_of b =
     let B = line 66 (size_fields b) in
     let E = line 69 [] in

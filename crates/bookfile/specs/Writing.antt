@@ -22,7 +22,7 @@ abbrev pub worth_line : ℕ × ℤ → Bytes
 worth_line p = line 67 (worth_fields p.0 p.1)
 
 -- all lines: the first (66), those of the records, those of the worths, the last (69)
-abbrev pub lines_of : WrittenBook → List Bytes
+unfoldable pub lines_of : WrittenBook → List Bytes
 lines_of b = line 66 (size_fields b) ∷ (map record_line b.records ++ (map worth_line (enumerate_from 0 b.worths) ++ (line 69 [] ∷ [])))
 
 -- a buffer begins with some bytes, of which there are n, and keeps what is past them

@@ -12,6 +12,7 @@ use super::text::{Text, end_text, record_text, sizes_text, worth_text};
 use books::list::ListBook;
 
 // How many lines there are: the sizes, each record, each worth, the end.
+#[tactic(auto, using(crate::proofs::Writing::count_of_lines))]
 fn line_count(book: &ListBook<'_>) -> usize
     ensures { result ≡ length (lines_of (book_of book.now)) }
 {
@@ -19,6 +20,7 @@ fn line_count(book: &ListBook<'_>) -> usize
 }
 
 // One of them, by its index.
+#[tactic(auto, using(crate::proofs::Writing::first_line, crate::proofs::Writing::record_line_at, crate::proofs::Writing::worth_line_at, crate::proofs::Writing::last_line))]
 fn line_text(book: &ListBook<'_>, index: usize) -> Text
     requires { index < length (lines_of (book_of book.now)) }
     ensures { result.bytes ≡ slice_index_or (lines_of (book_of book.now)) index [] }
