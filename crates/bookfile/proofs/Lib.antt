@@ -9,3 +9,4 @@ pub mod Cutting
 pub mod Advancing
 pub mod Filling
 pub mod Passes
+pub mod Writing
