@@ -1,3 +1,5 @@
 pub mod Asking
 pub mod Faults
 pub mod Printing
+pub mod Inputs
+pub mod Quotes
