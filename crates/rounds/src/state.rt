@@ -1,4 +1,4 @@
-ghost use Rattle.std.specs.Prelude.{◌≡◌, ◌+◌};
+ghost use Rattle.std.specs.Prelude.{◌≡◌, ◌+◌, IfErr};
 ghost use Rattle.model.specs.Model.{offers};
 ghost use Rattle.rounds.specs.States.{Sound};
 ghost use Rattle.rounds.specs.Calls.{to_begin, to_name, to_treat, to_report, to_settle};
@@ -128,7 +128,8 @@ impl Arrived {
     // Gives the remedy that the table names at the lock's visit, in its condition. The table has an entry for each visit
     // and each condition of the book.
     pub fn treat<B: Book>(self, book: &B, remedies: &[u8]) -> Result<Treated, Declined<Arrived>>
-        ensures { result ≡ to_treat (offers (B.model book.now)) remedies.now self }
+        ensures answer { result ≡ to_treat (offers (B.model book.now)) remedies.now self }
+        ensures back { IfErr result (λ d. d.state ≡ self) }
     {
         match self.due(book, remedies) {
             Ok(remedy) => Ok(Treated {
@@ -147,7 +148,8 @@ impl Arrived {
 
     // Settles the round after its last visit: answers what was collected and the worth of the condition.
     pub fn settle<B: Book>(self, book: &B) -> Result<i64, Declined<Arrived>>
-        ensures { result ≡ to_settle (B.model book.now) self }
+        ensures answer { result ≡ to_settle (B.model book.now) self }
+        ensures back { IfErr result (λ d. d.state ≡ self) }
     {
         if self.visit <= self.visits {
             return Err(Declined {
@@ -201,7 +203,8 @@ impl Treated {
 
     // Reports the condition that followed, and adds the amount of that outcome; the lock has arrived at the next visit.
     pub fn report<B: Book>(self, book: &B, next: usize) -> Result<Arrived, Declined<Treated>>
-        ensures { result ≡ to_report (B.model book.now) self next }
+        ensures answer { result ≡ to_report (B.model book.now) self next }
+        ensures back { IfErr result (λ d. d.state ≡ self) }
     {
         let conditions = book.conditions();
         if next >= conditions || self.condition >= conditions || self.remedy >= book.remedies() {

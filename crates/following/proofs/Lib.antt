@@ -1,0 +1,5 @@
+pub mod Steps
+pub mod Turns
+pub mod Accepted
+pub mod Totals
+pub mod Covered

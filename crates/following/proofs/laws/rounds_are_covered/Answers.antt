@@ -1,0 +1,5 @@
+use Rattle.following.proofs.Covered.{rounds_are_covered_lem}
+use Rattle.following.proofs.laws.rounds_are_covered.Goals as goal
+
+pub returns : goal.returns
+returns c = record { covered = rounds_are_covered_lem }
