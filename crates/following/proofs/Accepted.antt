@@ -1,5 +1,5 @@
 -- What an accepted call of a round tells.
-use Rattle.std.proofs.Common.{◌≡◌, ℕ, ◌<◌, ◌≤◌, List, ℤ, Ok, Err, Result, refl, arith}
+use Rattle.std.proofs.Common.{◌≡◌, ℕ, ◌*◌, ◌<◌, ◌≤◌, true, List, length, ℤ, Ok, Err, Result, refl, arith}
 use Rattle.std.proofs.lemmas.Bool.Decides.{nat_tests}
 use Rattle.model.specs.Model.{Model, Offers}
 use Rattle.rounds.specs.States.{Arrival, Treatment}
@@ -27,3 +27,13 @@ treat_is o rs a b e =
     let n = named_is a (to_name o rs a) b e in
     let k = name_is o rs a n.0 n.1 in
     (k.0, cc)
+
+-- and what is accepted
+pub treats_so : (o : Offers) (rs : List ℕ) (a : Arrival) → a.visit ≤ a.visits → a.condition < o.conditions → a.visits * o.conditions ≤ length rs → o.offered a.visit a.condition (named_remedy o rs a) ≡ true → to_treat o rs a ≡ Ok (treated_by a (named_remedy o rs a))
+treats_so o rs a in_time i room here = grind (arith, nat_tests)
+
+pub reports_so : (m : Model) (b : Treatment) (j : ℕ) → j < m.conditions → b.condition < m.conditions → b.remedy < m.remedies → 0 < m.share b.visit b.condition b.remedy j → to_report m b j ≡ Ok (next_arrival m b j)
+reports_so m b j next own remedy some = grind (arith, nat_tests)
+
+pub settles_so : (m : Model) (a : Arrival) → a.visits < a.visit → a.condition < m.conditions → to_settle m a ≡ Ok (final_total m a)
+settles_so m a late own = grind (arith, nat_tests)

@@ -3,3 +3,5 @@ pub mod Turns
 pub mod Accepted
 pub mod Totals
 pub mod Covered
+pub mod Led
+pub mod Determined
