@@ -37,3 +37,6 @@ reports_so m b j next own remedy some = grind (arith, nat_tests)
 
 pub settles_so : (m : Model) (a : Arrival) → a.visits < a.visit → a.condition < m.conditions → to_settle m a ≡ Ok (final_total m a)
 settles_so m a late own = grind (arith, nat_tests)
+
+pub begins_so : (o : Offers) (H s : ℕ) → 1 ≤ H → H ≤ 48 → s < o.conditions → to_begin o H s ≡ Ok (first_arrival H s)
+begins_so o H s some few own = grind (arith, nat_tests)

@@ -5,3 +5,4 @@ pub mod Totals
 pub mod Covered
 pub mod Led
 pub mod Determined
+pub mod Answered

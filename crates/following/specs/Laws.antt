@@ -1,5 +1,5 @@
 -- What holds of every round, whatever calls are made.
-use Rattle.std.specs.Prelude.{◌≡◌, ℕ, ◌*◌, ◌≤◌, List, [], length, ℤ, Ok}
+use Rattle.std.specs.Prelude.{◌≡◌, ℕ, ◌*◌, ◌≤◌, List, [], length, ℤ, Ok, Result}
 use Rattle.model.specs.Model.{Model, Lawful, offers}
 use Rattle.criteria.specs.Policies.{Policy, tabled}
 use Rattle.criteria.specs.Expected.{gain}
@@ -14,7 +14,9 @@ use Rattle.following.specs.declared.lock.Lock.{Lock}
 use Rattle.following.specs.declared.lock.Lock.TheVariants.{Waiting}
 use Rattle.following.specs.Runs.{Runs}
 use Rattle.following.specs.Courses.{reported, IsSettled, AtLeast, Totals, calls_along}
-use Rattle.following.specs.Following.{planned_floor}
+use Rattle.following.specs.declared.call.Turn.{Turn}
+use Rattle.following.specs.declared.follow.Unfollowed.{Unfollowed}
+use Rattle.following.specs.Following.{planned_floor, RoundAnswers}
 
 -- calls from any state have replies, and only one list of them
 abbrev pub RunsAreDetermined : Type 0
@@ -39,3 +41,7 @@ RoundsAreCovered = (m : Model) (H n : ℕ) (vs vs' : List ℤ) (rs rs' : List �
 -- and some round that follows it settles at this very value
 abbrev pub FloorsAreMet : Type 0
 FloorsAreMet = (m : Model) (H n : ℕ) (vs vs' : List ℤ) (rs rs' : List ℕ) → Lawful m → PlanAnswers floor m H (Ok n) vs vs' rs rs' → (s : ℕ) (a : Arrival) → to_begin (offers m) H s ≡ Ok a → (c : List ℕ) × ((zs : List Reply) × (Runs m rs' (Waiting a) (calls_along c) zs × IsSettled zs × Totals (planned_floor m vs' 1 s) zs))
+
+-- the answer of a round, both tables and the turns follow from what was brought
+abbrev pub RoundsAreDetermined : Type 0
+RoundsAreDetermined = (m : Model) (H s : ℕ) (vs vs' ws' : List ℤ) (rs rs' qs' : List ℕ) (ts ts' us' : List Turn) (x y : Result ℕ Unfollowed) → Lawful m → RoundAnswers m H s x vs vs' rs rs' ts ts' → RoundAnswers m H s y vs ws' rs qs' ts us' → (x ≡ y) × (vs' ≡ ws') × (rs' ≡ qs') × (ts' ≡ us')

@@ -1,5 +1,5 @@
 // What holds of every round. Each function does nothing: its contract is the law.
-ghost use Rattle.following.specs.Laws.{RunsAreDetermined, SettlesTheCourse, SettledCoursesArePossible, CoursesCanBeLed, RoundsAreCovered, FloorsAreMet};
+ghost use Rattle.following.specs.Laws.{RunsAreDetermined, SettlesTheCourse, SettledCoursesArePossible, CoursesCanBeLed, RoundsAreCovered, FloorsAreMet, RoundsAreDetermined};
 
 // A round settles at the total of the course that was reported, and every course that can come about can be led so.
 pub fn rounds_settle_their_courses()
@@ -13,4 +13,5 @@ pub fn rounds_settle_their_courses()
 pub fn rounds_are_covered()
     ensures covered { RoundsAreCovered }
     ensures met { FloorsAreMet }
+    ensures answered { RoundsAreDetermined }
 {}
