@@ -8,14 +8,15 @@ use Rattle.sheets.specs.declared.note.Note.{Note}
 use Rattle.service.specs.declared.call.Request.{Request}
 use Rattle.service.specs.Calls.{standing, standing_after}
 use Rattle.service.specs.Serving.{Answered, Served}
+use Rattle.service.specs.Laws.{PartsAreTheWhole}
 
 module _ {C V A : Type 0} (ops : C → Ops V A) (m : Model) where
-  -- one request more at the end
-  pub one_more : (xs ys : List (Request C V)) (ns : List Note) (x y : Request C V) → Served ops m ns xs ys → Answered ops m (standing_after m ns xs) x y → Served ops m ns (xs ++ x ∷ []) (ys ++ y ∷ [])
-  one_more [] [] ns x y p q = (q, tt)
-  one_more [] (z ∷ ys) ns x y p q = absurd p
-  one_more (w ∷ xs) [] ns x y p q = absurd p
-  one_more (w ∷ xs) (z ∷ ys) ns x y p q = (p.0, one_more xs ys (standing m ns w.call) x y p.1 q)
+  -- a list that is served in two parts
+  pub parts : (xs ys : List (Request C V)) (ns : List Note) (xs' ys' : List (Request C V)) → Served ops m ns xs ys → Served ops m (standing_after m ns xs) xs' ys' → Served ops m ns (xs ++ xs') (ys ++ ys')
+  parts [] [] ns xs' ys' p q = q
+  parts [] (z ∷ ys) ns xs' ys' p q = absurd p
+  parts (w ∷ xs) [] ns xs' ys' p q = absurd p
+  parts (w ∷ xs) (z ∷ ys) ns xs' ys' p q = (p.0, parts xs ys (standing m ns w.call) xs' ys' p.1 q)
 
   -- of the requests xs, which are now ys, the first i are served; the notes now stand
   pub record Progress (ns : List Note) (xs ys : List (Request C V)) (now : List Note) (i : ℕ) : Type 0 where
@@ -33,7 +34,10 @@ module _ {C V A : Type 0} (ops : C → Ops V A) (m : Model) where
       let tails : drop (i + 1) ys ≡ drop (i + 1) xs = cc in
       let t : take (i + 1) xs ≡ take i xs ++ get_or ys i d ∷ [] = take_more xs i d lx ∙ ap (λ z. take i xs ++ z ∷ []) same in
       record {
-        served = rw (t, take_more_set ys i y l) (one_more (take i xs) (take i ys) ns (get_or ys i d) y p.served (rw (← p.notes) a));
+        served = rw (t, take_more_set ys i y l) (parts (take i xs) (take i ys) ns (get_or ys i d ∷ []) (y ∷ []) p.served (rw (← p.notes) a, tt));
         notes = rw (t, fold-append (λ ns x. standing m ns x.call) ns (take i xs) (get_or ys i d ∷ []), ← p.notes) e;
         rest = drop-set-lt (i + 1) ys i y (omega arith) ∙ tails;
       }
+
+pub parts_are_the_whole : {C V A : Type 0} (ops : C → Ops V A) → PartsAreTheWhole ops
+parts_are_the_whole ops m ns xs ys xs' ys' p q = parts ops m xs ys ns xs' ys' p q
