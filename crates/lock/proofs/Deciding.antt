@@ -7,11 +7,12 @@ use Rattle.std.proofs.lemmas.Int.{ints}
 use Rattle.std.proofs.Math.Facts.{and_yes}
 use Rattle.model.specs.Passed.{is_true}
 use Rattle.model.specs.Model.{Model, Offers, offers, Lawful, weight}
-use Rattle.model.specs.Visits.{visit_after, Place, Open, Even, Fits, SomeOffered}
+use Rattle.model.specs.Visits.{visit_after, Place, Before, Open, Even, Fits, SomeOffered}
 use Rattle.model.specs.Tables.{KeptPast}
 use Rattle.criteria.specs.Criteria.{Ops, Laws}
 use Rattle.criteria.specs.Policies.{remedied}
 use Rattle.checks.specs.Limit.{greatest}
+use Rattle.checks.specs.Places.{FirstStuck}
 use Rattle.checks.specs.Acceptance.{InOrder, PlanAccepted}
 use Rattle.checks.proofs.Peaks.{fits_by_the_peak, has_a_peak}
 use Rattle.checks.specs.declared.refusal.PlanRefusal.{PlanRefusal}
@@ -110,12 +111,46 @@ module _ (m : Model) (H v w : ℕ) where
       let c = and_yes even_test _ b.1 in
       record { in_order = in_order a.0; openly = opens b.0; evenly = evens lawful c.0; fitting = fits lawful c.1 }
 
-  pub too_fine : Lawful m → T (order_test && (open_test && (even_test && not limit_test))) → InOrder (offers m) H v w × Open (offers m) H × Even m H × (Fits m H → ⊥)
+  abbrev pub fine_test : Bool
+  fine_test = order_test && (open_test && (even_test && not limit_test))
+
+  pub too_fine : Lawful m → T fine_test → InOrder (offers m) H v w × Open (offers m) H × Even m H × (Fits m H → ⊥)
   too_fine lawful h =
       let a = and_yes order_test _ h in
       let b = and_yes open_test _ a.1 in
       let c = and_yes even_test _ b.1 in
       (in_order a.0, opens b.0, evens lawful c.0, unfit lawful c.1)
+
+  -- nothing is offered at the visit after past ones, in the condition s, and something at every place before
+  abbrev pub stuck_test : (past s : ℕ) → Bool
+  stuck_test past s = order_test && (ltb past H && (ltb s m.conditions && (every m.remedies (λ r. not (m.offered (suc past) s r)) && every H (λ n. every m.conditions (λ k.
+      only_if (ltb n past || ((n == past) && ltb k s)) (some m.remedies (λ r. m.offered (suc n) k r)))))))
+
+  pub stuck : (past s : ℕ) → Lawful m → T (stuck_test past s) → InOrder (offers m) H v w × FirstStuck (offers m) H (suc past) s
+  stuck past s lawful h =
+      let a = and_yes order_test _ h in
+      let b = and_yes (ltb past H) _ a.1 in
+      let c = and_yes (ltb s m.conditions) _ b.1 in
+      let d = and_yes (every m.remedies (λ r. not (m.offered (suc past) s r))) _ c.1 in
+      let low = ltb-true past H (is_true _ b.0) in
+      let place : Place (offers m) H (suc past) s = record { from = omega arith; to = omega arith; condition = ltb-true s m.conditions (is_true _ c.0) } in (
+        in_order a.0,
+        record {
+          place = place;
+          bare = λ r t. never _ (every_of m.remedies _ d.0 r (lawful.offered_inside (suc past) s r t).some_remedy) t;
+          first = λ n k p e. first_before past s d.1 n k p e;
+        },
+      )
+    where
+      first_before : (past s : ℕ) → T (every H (λ n. every m.conditions (λ k. only_if (ltb n past || ((n == past) && ltb k s)) (some m.remedies (λ r. m.offered (suc n) k r))))) →
+          (n k : ℕ) → Place (offers m) H n k → Before n k (suc past) s → SomeOffered (offers m) n k
+      first_before past s h zero k p e = absurd (let l = p.from in omega arith)
+      first_before past s h (suc n) k p e =
+          let test = every_of m.conditions _ (every_of H _ h n (let l = p.to in omega arith)) k p.condition in
+          some_in m.remedies _ (then_so (ltb n past || ((n == past) && ltb k s)) _ test (subst T (sym (earlier e)) tt))
+        where
+          earlier : Before (suc n) k (suc past) s → (ltb n past || ((n == past) && ltb k s)) ≡ true
+          earlier e = grind (arith, nat_tests)
 
 module _ (o : Ops ℤ ℤ) (m : Model) (H : ℕ) (vs : List ℤ) (rs : List ℕ) where
   -- an entry: the remedy is offered and has the value, which is as good as any, and better than those of lower numbers

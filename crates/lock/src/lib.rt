@@ -2,4 +2,5 @@
 #![tactic(auto)]
 
 pub mod book;
+pub mod notes;
 pub mod plans;

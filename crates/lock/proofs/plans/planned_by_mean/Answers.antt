@@ -1,7 +1,6 @@
 use Rattle.std.proofs.Common.{◌≡◌, refl}
 use Rattle.books.specs.Lawfuls.{list_book_lawful}
 use Rattle.criteria.specs.Mean.{at_least, mean}
-
 use Rattle.criteria.specs.Keeping.{mean_lawful}
 use Rattle.lock.specs.Lock.{worked_lock, mean_values, mean_remedies}
 use Rattle.lock.proofs.Planning.{planned_as}
