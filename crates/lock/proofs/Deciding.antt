@@ -1,12 +1,12 @@
 -- Plans of closed books, decided by tests that compute.
-use Rattle.std.proofs.Common.{◌≡◌, ℕ, zero, suc, ◌+◌, ◌-◌, ◌*◌, ◌^◌, ◌<◌, ◌≤◌, Bool, true, false, not, ◌&&◌, ◌||◌, T, ◌⊎◌, List, length, get_or, ℤ, pos, ◌≤ℤ◌, Ok, Err, Result, leb, ltb, sym, refl, subst, inl, inr, ⊎_elim, arith}
+use Rattle.std.proofs.Common.{◌≡◌, ℕ, zero, suc, ◌+◌, ◌-◌, ◌*◌, ◌^◌, ◌<◌, ◌≤◌, Bool, true, false, not, ◌&&◌, ◌||◌, T, ◌⊎◌, List, length, get_or, ℤ, ◌≤ℤ◌, Ok, Result, leb, ltb, sym, refl, subst, inl, inr, ⊎_elim, arith}
 use Rattle.std.specs.Prelude.{int_le, ◌==◌}
 use Rattle.std.proofs.lemmas.Bool.{leb-true, ltb-true, cases_lt}
 use Rattle.std.proofs.lemmas.Bool.Decides.{nat_tests}
 use Rattle.std.proofs.lemmas.Int.{ints}
 use Rattle.std.proofs.Math.Facts.{and_yes}
 use Rattle.model.specs.Passed.{is_true}
-use Rattle.model.specs.Model.{Model, Offers, offers, Lawful, weight}
+use Rattle.model.specs.Model.{Model, offers, Lawful, weight}
 use Rattle.model.specs.Visits.{visit_after, Place, Before, Open, Even, Fits, SomeOffered}
 use Rattle.model.specs.Tables.{KeptPast}
 use Rattle.criteria.specs.Criteria.{Ops, Laws}
@@ -16,8 +16,7 @@ use Rattle.checks.specs.Places.{FirstStuck}
 use Rattle.checks.specs.Acceptance.{InOrder, PlanAccepted}
 use Rattle.checks.proofs.Peaks.{fits_by_the_peak, has_a_peak}
 use Rattle.checks.specs.declared.refusal.PlanRefusal.{PlanRefusal}
-use Rattle.planning.specs.Choosing.{Best}
-use Rattle.planning.specs.Tables.{at, row_of, Chosen, Closed, AsAsked, Filled}
+use Rattle.planning.specs.Tables.{at, row_of, Chosen, Filled}
 use Rattle.planning.specs.Plans.{PlanAnswers}
 use Rattle.planning.proofs.Plans.{policy_is, unbeaten_is, lowest_is, planned_values}
 use Rattle.planning.proofs.Determined.{plans_are_determined}

@@ -1,5 +1,5 @@
 -- The plans of a book that means what the worked lock means.
-use Rattle.std.proofs.Common.{◌≡◌, ℕ, suc, ◌+◌, ◌*◌, ◌&&◌, T, List, length, ℤ, Ok, Err, Result, refl, subst}
+use Rattle.std.proofs.Common.{◌≡◌, ℕ, suc, Bool, sym, ◌+◌, ◌*◌, ◌&&◌, T, List, length, ℤ, Ok, Err, Result, refl, subst}
 use Rattle.model.specs.Model.{Model, Lawful}
 use Rattle.model.specs.Tables.{KeptPast}
 use Rattle.books.specs.declared.list.ListBook.{ListBook}
@@ -9,7 +9,7 @@ use Rattle.sheets.specs.declared.note.Note.{Note}
 use Rattle.sheets.specs.Notes.{noted}
 use Rattle.sheets.specs.Keeping.{noted_lawful}
 use Rattle.criteria.specs.Criteria.{Ops, Laws}
-use Rattle.criteria.specs.Mean.{at_least}
+use Rattle.criteria.specs.Mean.{mean, at_least}
 use Rattle.criteria.specs.Floor.{floor}
 use Rattle.criteria.specs.Keeping.{floor_lawful}
 use Rattle.checks.specs.declared.refusal.PlanRefusal.{PlanRefusal}
@@ -19,6 +19,7 @@ use Rattle.planning.proofs.Determined.{plan_seen}
 use Rattle.planning.proofs.Refused.{PlanView, one_plan}
 use Rattle.planning.proofs.Refused.PlanView.{at_stuck_plan, at_fine_plan, at_accepted_plan}
 use Rattle.lock.specs.Lock.{worked_lock}
+use Rattle.lock.specs.Noted.{Answered}
 use Rattle.lock.proofs.Deciding.{accept_test, accepted, fine_test, too_fine, stuck_test, stuck, tables_test, plan_is}
 
 module _ (o : Ops ℤ ℤ) (better : ℤ → ℤ → Type 0) (laws : Laws o better) (m : Model) (lawful : Lawful m) (n : Model) (same : m ≡ n) where
@@ -58,3 +59,16 @@ module _ (b : ListBook) (ns xs : List Note) (e : list_means b ≡ worked_lock) (
   stuck_as o H past s vs vs' rs rs' a test plan =
       let why = stuck (noted worked_lock xs) H (length vs) (length rs) past s (subst Lawful under_notes lawfully) test in
       answered_as o H vs vs' rs rs' a (Err (Stuck (suc past) s)) (at_stuck_plan (suc past) s why.0 why.1) plan
+
+  module _ (H : ℕ) (a : Result ℕ PlanRefusal) (x : Answered (noted (list_means b) ns) H a) where
+    at_lengths : (t : ℕ → ℕ → Bool) → T (t 196 192) → T (t (length x.values_before) (length x.remedies_before))
+    at_lengths t h = subst (λ v. T (t v (length x.remedies_before))) (sym x.values_long) (subst (λ w. T (t 196 w)) (sym x.remedies_long) h)
+
+    pub accepted_of : T (accept_test (noted worked_lock xs) H 196 192) → a ≡ Ok (H * 4)
+    accepted_of h = accepted_as mean H x.values_before x.values_after x.remedies_before x.remedies_after a (at_lengths (λ v w. accept_test (noted worked_lock xs) H v w) h) x.plan
+
+    pub fine_of : T (fine_test (noted worked_lock xs) H 196 192) → a ≡ Err Fine
+    fine_of h = fine_as mean H x.values_before x.values_after x.remedies_before x.remedies_after a (at_lengths (λ v w. fine_test (noted worked_lock xs) H v w) h) x.plan
+
+    pub stuck_of : (past s : ℕ) → T (stuck_test (noted worked_lock xs) H 196 192 past s) → a ≡ Err (Stuck (suc past) s)
+    stuck_of past s h = stuck_as mean H past s x.values_before x.values_after x.remedies_before x.remedies_after a (at_lengths (λ v w. stuck_test (noted worked_lock xs) H v w past s) h) x.plan

@@ -1,8 +1,7 @@
-use Rattle.std.proofs.Common.{◌≡◌, [], negsuc, refl, ap, ◌∙◌, w64, to_z, of_z}
+use Rattle.std.proofs.Common.{refl, ap, ◌∙◌, w64, to_z, of_z}
 use Rattle.model.specs.Model.{offers}
 use Rattle.books.specs.Means.{list_means}
 use Rattle.sheets.specs.Calls.{to_surcharge}
-use Rattle.lock.specs.Lock.{worked_lock}
 use Rattle.lock.specs.Noted.{tied, untied}
 use Rattle.lock.proofs.Planning.{floor_planned_as}
 use Rattle.lock.proofs.notes.surcharge_leave.Goals as goal

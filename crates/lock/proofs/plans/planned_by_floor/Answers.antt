@@ -1,4 +1,4 @@
-use Rattle.std.proofs.Common.{◌≡◌, refl}
+use Rattle.std.proofs.Common.{refl}
 use Rattle.books.specs.Lawfuls.{list_book_lawful}
 use Rattle.criteria.specs.Mean.{at_least}
 use Rattle.criteria.specs.Floor.{floor}
