@@ -1,0 +1,7 @@
+pub mod Steps
+pub mod Turns
+pub mod Accepted
+pub mod Totals
+pub mod Covered
+pub mod Led
+pub mod Determined
