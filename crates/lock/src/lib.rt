@@ -4,3 +4,4 @@
 pub mod book;
 pub mod notes;
 pub mod plans;
+pub mod round;
