@@ -43,31 +43,28 @@ module _ (b : WrittenBook) where
       let q : i ≡ suc (i - 1) = omega arith in
       ap (λ n. get_or (lines_of b) n []) q ∙ get_or_append_left rs _ [] (i - 1) (omega arith) ∙ get_or-map record_line b.records (i - 1) no_record [] (omega arith)
 
-  past_records : (i : ℕ) → length b.records < i → get_or (lines_of b) i [] ≡ get_or (ws ++ (line 69 [] ∷ [])) (i - length b.records - 1) []
+  past_records : (i s : ℕ) → i ≡ suc (length b.records + s) → get_or (lines_of b) i [] ≡ get_or (ws ++ (line 69 [] ∷ [])) s []
   unfolding lines_of
-  past_records i h =
-      let q : i ≡ suc (i - 1) = omega arith in
-      let at : i - 1 - length b.records ≡ i - length b.records - 1 = omega arith in
-      ap (λ n. get_or (lines_of b) n []) q ∙ get_or-append_right rs _ (length b.records) (i - 1) [] long_rs (omega arith) ∙ ap (λ n. get_or (ws ++ (line 69 [] ∷ [])) n []) at
+  past_records i s q =
+      let at : length b.records + s - length b.records ≡ s = omega arith in
+      ap (λ n. get_or (lines_of b) n []) q ∙ get_or-append_right rs _ (length b.records) (length b.records + s) [] long_rs (omega arith) ∙ ap (λ n. get_or (ws ++ (line 69 [] ∷ [])) n []) at
 
-  pub worth_line_at : (i : ℕ) → length b.records < i → i ≤ length b.records + length b.worths → get_or (lines_of b) i [] ≡ worth_line (i - length b.records - 1, get_or b.worths (i - length b.records - 1) (pos 0))
-  worth_line_at i h l =
+  pub worth_line_at : (i s : ℕ) → i ≡ suc (length b.records + s) → s < length b.worths → get_or (lines_of b) i [] ≡ worth_line (s, get_or b.worths s (pos 0))
+  worth_line_at i s q h =
       let w = long_ws in
-      let s = i - length b.records - 1 in
-      past_records i h
+      past_records i s q
       ∙ get_or_append_left ws _ [] s (omega arith)
       ∙ get_or-map worth_line (enumerate_from 0 b.worths) s (0, pos 0) [] (omega (arith, length-enumerate_from 0 b.worths))
-      ∙ ap worth_line (get_or-enumerate_from 0 b.worths s (0, pos 0) (omega arith))
+      ∙ ap worth_line (get_or-enumerate_from 0 b.worths s (0, pos 0) h)
       ∙ ap (λ n. worth_line (n, get_or b.worths s (pos 0))) (zero-add s)
 
   pub last_line : (i : ℕ) → length b.records + length b.worths < i → i < length (lines_of b) → get_or (lines_of b) i [] ≡ line 69 []
   last_line i h l =
       let w = long_ws in
-      let s = i - length b.records - 1 in
       let all = count_of_lines in
-      let none : s - length b.worths ≡ 0 = omega arith in
-      past_records i (omega arith)
-      ∙ get_or-append_right ws (line 69 [] ∷ []) (length b.worths) s [] long_ws (omega arith)
+      let none : length b.worths - length b.worths ≡ 0 = omega arith in
+      past_records i (length b.worths) (omega arith)
+      ∙ get_or-append_right ws (line 69 [] ∷ []) (length b.worths) (length b.worths) [] long_ws (omega arith)
       ∙ ap (λ n. get_or {A = Bytes} (line 69 [] ∷ []) n []) none
 
 concat-records : (es : List Record) → concat (map record_line es) ≡ record_lines es

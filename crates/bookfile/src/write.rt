@@ -20,7 +20,7 @@ fn line_count(book: &ListBook<'_>) -> usize
 }
 
 // One of them, by its index.
-#[tactic(auto, using(crate::proofs::Writing::first_line, crate::proofs::Writing::record_line_at, crate::proofs::Writing::worth_line_at, crate::proofs::Writing::last_line))]
+#[tactic(auto, using(crate::proofs::Writing::first_line, crate::proofs::Writing::record_line_at, crate::proofs::Writing::last_line))]
 fn line_text(book: &ListBook<'_>, index: usize) -> Text
     requires { index < length (lines_of (book_of book.now)) }
     ensures { result.bytes ≡ slice_index_or (lines_of (book_of book.now)) index [] }
