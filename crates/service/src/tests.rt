@@ -1,4 +1,4 @@
-// A list of calls, accepted and declined, on the worked lock of docs/RULES.md.
+// Lists of calls, accepted and declined, on a small book; the numbers are worked out by hand.
 use super::call::{Call, CallRefusal, Request};
 use super::serve::serve;
 use books::list::ListBook;
@@ -7,64 +7,114 @@ use checks::refusal::PlanRefusal;
 use criteria::by::By;
 use criteria::floor::Floor;
 use criteria::mean::Mean;
+use following::call::{Reply, RoundCall, Turn};
+use following::follow::Unfollowed;
+use rounds::refusal::RoundRefusal;
 use sheets::refusal::NoteRefusal;
 use sheets::sheet::Sheet;
 use std::alloc::{AllocError, Global};
 use std::test::Fail;
 
-// Condition, remedy, next condition, share, amount.
-const LOCK: [(usize, usize, usize, u32, i64); 15] = [
-    (0, 0, 1, 14, 0),
-    (0, 0, 2, 1, 0),
-    (0, 0, 3, 1, 0),
-    (0, 1, 1, 16, -4000),
-    (0, 2, 0, 16, -6000),
-    (1, 0, 1, 12, -1000),
-    (1, 0, 2, 2, -1000),
-    (1, 0, 3, 2, -1000),
-    (1, 1, 1, 16, -4000),
-    (1, 2, 0, 16, -6000),
-    (2, 0, 2, 8, -3000),
-    (2, 0, 3, 8, -3000),
-    (2, 1, 1, 16, -4000),
-    (2, 2, 0, 16, -6000),
-    (3, 2, 0, 16, -6000),
+// A door of two parts: whole (0) it may be left, and breaks (1) in one part of two, or be braced for 3 and stay whole;
+// broken it is mended for 10.
+const DOOR: [Record; 4] = [
+    Record {
+        condition: 0,
+        remedy: 0,
+        next: 0,
+        share: 1,
+        amount: 0,
+    },
+    Record {
+        condition: 0,
+        remedy: 0,
+        next: 1,
+        share: 1,
+        amount: 0,
+    },
+    Record {
+        condition: 0,
+        remedy: 1,
+        next: 0,
+        share: 2,
+        amount: -3,
+    },
+    Record {
+        condition: 1,
+        remedy: 1,
+        next: 0,
+        share: 2,
+        amount: -10,
+    },
 ];
 
-fn records(heap: Global) -> Result<Vec<Record>, AllocError> {
-    LOCK.iter()
-        .map(|&(condition, remedy, next, share, amount)| Record {
-            condition,
-            remedy,
-            next,
-            share,
-            amount,
-        })
-        .collect(heap)
-}
-
-// A plan in tables for two visits.
+// Room for two visits, which stands full of sevens.
 fn plan(heap: Global, criterion: By, visits: usize) -> Result<Request<By, i64>, AllocError> {
+    let values = vec![in heap; 7; 6]?;
+    let remedies = vec![in heap; 7; 4]?;
     Ok(Request::new(Call::Plan {
         criterion,
         visits,
-        values: vec![in heap; 7; 12]?,
-        remedies: vec![in heap; 7; 8]?,
+        values,
+        remedies,
     }))
 }
 
-fn judgement(
-    heap: Global,
-    criterion: By,
-    remedies: [u8; 4],
-) -> Result<Request<By, i64>, AllocError> {
+fn judgement(heap: Global, remedies: [u8; 2]) -> Result<Request<By, i64>, AllocError> {
+    let values = vec![in heap; 7; 4]?;
+    let remedies = Vec::from_array(heap, remedies)?;
     Ok(Request::new(Call::Judge {
-        criterion,
+        criterion: By::Floor(Floor),
         visits: 1,
-        values: vec![in heap; 7; 8]?,
-        remedies: Vec::from_array(heap, remedies)?,
+        values,
+        remedies,
     }))
 }
+
+fn requests(heap: Global) -> Result<[Request<By, i64>; 8], AllocError> {
+    let by_mean = plan(heap, By::Mean(Mean::of(2)), 2)?;
+    let by_floor = plan(heap, By::Floor(Floor), 2)?;
+    let judged = judgement(heap, [0, 1])?;
+    let misnamed = judgement(heap, [0, 0])?;
+    Ok([
+        by_mean,
+        Request::new(Call::Bar {
+            condition: 1,
+            remedy: 1,
+            first: 2,
+            last: 2,
+        }),
+        by_floor,
+        Request::new(Call::Lift { place: 2 }),
+        Request::new(Call::Lift { place: 1 }),
+        Request::new(Call::Surcharge {
+            remedy: 0,
+            amount: -4,
+            first: 1,
+            last: 1,
+        }),
+        judged,
+        misnamed,
+    ])
+}
+
+const ANSWERS: [Result<usize, CallRefusal>; 8] = [
+    Ok(4),
+    Ok(1),
+    Err(CallRefusal::Plan(PlanRefusal::Stuck {
+        visit: 2,
+        condition: 1,
+    })),
+    Err(CallRefusal::Note(NoteRefusal::Unknown)),
+    Ok(0),
+    Ok(1),
+    Ok(2),
+    Err(CallRefusal::Plan(PlanRefusal::Rule {
+        visit: 1,
+        condition: 1,
+        remedy: 0,
+    })),
+];
 
 fn values_of(call: &Call<By, i64>) -> &[i64] {
     match call {
@@ -73,105 +123,79 @@ fn values_of(call: &Call<By, i64>) -> &[i64] {
     }
 }
 
-fn remedies_of(call: &Call<By, i64>) -> &[u8] {
-    match call {
-        Call::Judge { remedies, .. } | Call::Plan { remedies, .. } => remedies.as_slice(),
-        _ => &[],
-    }
+fn door(heap: Global) -> Result<Sheet<ListBook<'static>>, Fail> {
+    let book = ListBook::new(2, 2, 2, &DOOR, &[0; 2]).map_err(|_| Fail::new("no book"))?;
+    Sheet::new(heap, book).map_err(|_| Fail::new("no memory"))
 }
 
+// Each call is answered under the notes standing when it comes; what is declined keeps its tables, and the next is served.
 #[test]
 fn mixed_list(rt: HostRuntime) -> Result<(), Fail> {
-    let heap = rt.alloc();
-    let mean = By::Mean(Mean::of(16));
-    let floor = By::Floor(Floor);
-    let records = records(heap)?;
-    let worths = [0; 4];
-    let book = ListBook::new(4, 3, 16, records.as_slice(), &worths).map_err(|_| Fail::new(
-        "no book",
-    ))?;
-    let mut sheet = Sheet::new(heap, book).map_err(|_| Fail::new("no memory"))?;
-    let mut requests = [
-        plan(heap, mean, 2)?,
-        Request::new(Call::Bar {
-            condition: 3,
-            remedy: 2,
-            first: 2,
-            last: 2,
-        }),
-        Request::new(Call::Bar {
-            condition: 4,
-            remedy: 2,
-            first: 1,
-            last: 1,
-        }),
-        plan(heap, floor, 2)?,
-        plan(heap, floor, 1)?,
-        Request::new(Call::Lift { place: 2 }),
-        Request::new(Call::Lift { place: 1 }),
-        plan(heap, floor, 2)?,
-        Request::new(Call::Surcharge {
-            remedy: 0,
-            amount: -1001,
-            first: 1,
-            last: 1,
-        }),
-        Request::new(Call::Prolong { place: 1, last: 49 }),
-        judgement(heap, floor, [0, 0, 0, 2])?,
-        judgement(heap, mean, [0, 0, 0, 0])?,
-    ];
+    let mut sheet = door(rt.alloc())?;
+    let mut requests = requests(rt.alloc())?;
     serve(&mut sheet, &mut requests);
-    let answers = [
-        Ok(8),
-        Ok(1),
-        Err(CallRefusal::Note(NoteRefusal::Unknown)),
-        Err(CallRefusal::Plan(PlanRefusal::Stuck {
-            visit: 2,
-            condition: 3,
-        })),
-        Ok(4),
-        Err(CallRefusal::Note(NoteRefusal::Unknown)),
-        Ok(0),
-        Ok(8),
-        Ok(1),
-        Err(CallRefusal::Note(NoteRefusal::Span)),
-        Ok(4),
-        Err(CallRefusal::Plan(PlanRefusal::Rule {
-            visit: 1,
-            condition: 3,
-            remedy: 0,
-        })),
-    ];
-    for (request, answer) in requests.iter().zip(answers) {
+    for (request, answer) in requests.iter().zip(ANSWERS) {
         assert_eq!(rt; request.answer, Some(answer));
     }
-    // which request, its values and its remedies
-    let tables: [(usize, &[i64], &[u8]); 5] = [
-        (
-            0,
-            &[
-                -368000, -736000, -1280000, -1536000, 0, -16000, -48000, -96000, 0, 0, 0, 0,
-            ],
-            &[0, 0, 1, 2, 0, 0, 0, 2],
-        ),
-        (3, &[7; 12], &[7; 8]),
-        (
-            4,
-            &[0, -1000, -3000, -6000, 0, 0, 0, 0, 7, 7, 7, 7],
-            &[0, 0, 0, 2, 7, 7, 7, 7],
-        ),
-        (
-            7,
-            &[
-                -5000, -5000, -5000, -6000, 0, -1000, -3000, -6000, 0, 0, 0, 0,
-            ],
-            &[1, 1, 1, 2, 0, 0, 0, 2],
-        ),
-        (10, &[-1001, -2001, -4001, -6000, 0, 0, 0, 0], &[0, 0, 0, 2]),
-    ];
-    for (place, values, remedies) in tables {
-        assert_eq!(rt; values_of(&requests[place].call), values);
-        assert_eq!(rt; remedies_of(&requests[place].call), remedies);
+    assert_eq!(rt;
+        values_of(&requests[0].call),
+        [-12, -40, 0, -20, 0, 0].as_slice()
+    );
+    assert_eq!(rt; values_of(&requests[2].call), [7; 6].as_slice());
+    assert_eq!(rt; values_of(&requests[6].call), [-4, -10, 0, 0].as_slice());
+    assert_eq!(rt; values_of(&requests[7].call), [7; 4].as_slice());
+    Ok(())
+}
+
+const CALLS: [RoundCall; 7] = [
+    RoundCall::Treat,
+    RoundCall::Report { next: 1 },
+    RoundCall::Report { next: 0 },
+    RoundCall::Treat,
+    RoundCall::Report { next: 1 },
+    RoundCall::Settle,
+    RoundCall::Treat,
+];
+
+fn round(heap: Global, condition: usize) -> Result<Request<By, i64>, AllocError> {
+    let values = vec![in heap; 7; 6]?;
+    let remedies = vec![in heap; 7; 4]?;
+    let mut turns = Vec::new(heap);
+    for call in CALLS {
+        turns.push(Turn { call, reply: None })?;
     }
+    Ok(Request::new(Call::Round {
+        visits: 2,
+        condition,
+        values,
+        remedies,
+        turns,
+    }))
+}
+
+// The floor braces at visit 1 and leaves at visit 2; a door that is braced does not break.
+#[test]
+fn rounds(rt: HostRuntime) -> Result<(), Fail> {
+    let mut sheet = door(rt.alloc())?;
+    let led = round(rt.alloc(), 0)?;
+    let mut requests = [led, round(rt.alloc(), 2)?];
+    serve(&mut sheet, &mut requests);
+    assert_eq!(rt; requests[0].answer, Some(Ok(6)));
+    let replies = [
+        Some(Reply::Treated { remedy: 1 }),
+        Some(Reply::Declined(RoundRefusal::Impossible)),
+        Some(Reply::Reported),
+        Some(Reply::Treated { remedy: 0 }),
+        Some(Reply::Reported),
+        Some(Reply::Settled { total: -3 }),
+        None,
+    ];
+    if let Call::Round { turns, .. } = &requests[0].call {
+        for (turn, reply) in turns.iter().zip(replies) {
+            assert_eq!(rt; turn.reply, reply);
+        }
+    }
+    let unknown = CallRefusal::Round(Unfollowed::Begin(RoundRefusal::Unknown));
+    assert_eq!(rt; requests[1].answer, Some(Err(unknown)));
     Ok(())
 }
