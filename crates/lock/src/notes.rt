@@ -1,5 +1,5 @@
 // Plans of the worked lock under notes. Whether there is memory for a sheet is open.
-ghost use Rattle.std.specs.Prelude.{◌≡◌, [], ◌∷◌, negsuc, Ok, Err};
+ghost use Rattle.std.specs.Prelude.{◌≡◌, negsuc, Ok, Err};
 ghost use Rattle.std.specs.Option.{ForSome};
 ghost use Rattle.checks.specs.declared.refusal.PlanRefusal.TheVariants.{Fine, Stuck};
 ghost use Rattle.books.specs.Means.{list_means};
@@ -23,6 +23,12 @@ pub struct OneVisit {
     pub answer: Result<usize, PlanRefusal>,
     pub values: [i64; 8],
     pub remedies: [u8; 4],
+}
+
+#[derive(Clone, Copy)]
+pub struct Longest {
+    pub eleven: Result<usize, PlanRefusal>,
+    pub twelve: Result<usize, PlanRefusal>,
 }
 
 #[derive(Clone, Copy)]
@@ -82,11 +88,14 @@ fn answer_for(sheet: &Sheet<ListBook<'static>>, visits: usize) -> Result<usize, 
 }
 
 // Without notes, what plans for 11 and for 12 visits answer.
-pub fn without_notes(heap: Global) -> Option<[Result<usize, PlanRefusal>; 2]>
-    ensures { ForSome result (λ x. x ≡ Ok 44 ∷ Err Fine ∷ []) }
+pub fn without_notes(heap: Global) -> Option<Longest>
+    ensures { ForSome result (λ x. x ≡ record { eleven = Ok 44; twelve = Err Fine }) }
 {
     let sheet = blank_sheet(heap)?;
-    Some([answer_for(&sheet, 11), answer_for(&sheet, 12)])
+    Some(Longest {
+        eleven: answer_for(&sheet, 11),
+        twelve: answer_for(&sheet, 12),
+    })
 }
 
 // Replace is barred in condition 3 for visit 2: what the bar, and plans for 1 and for 2 visits answer.
