@@ -8,3 +8,4 @@ pub mod Reading
 pub mod Writing
 pub mod Entered
 pub mod Advance
+pub mod Filling
