@@ -3,26 +3,43 @@ use books::list::ListBook;
 use checks::refusal::PlanRefusal;
 use following::call::{Reply, RoundCall, Turn};
 use following::follow::{Unfollowed, follow};
+use model::Book;
 use rounds::refusal::RoundRefusal::{self, Early, Impossible, Over, Rule, Short, Unknown, Visits};
-use rounds::state::{Arrived, Declined, Treated, begin};
+use rounds::state::{Arrived, Treated, begin};
 use std::test::Fail;
 
-// The state that comes back, and why.
-fn declined<T: Drop, S>(answer: Result<T, Declined<S>>) -> Result<(S, RoundRefusal), Fail> {
-    match answer {
-        Ok(_) => Err(Fail::new("accepted")),
-        Err(declined) => Ok((declined.state, declined.refusal)),
+// A lock of one visit that was given remedy 1 in the condition.
+fn in_care(condition: usize) -> Result<Treated, RoundRefusal> {
+    begin(&Switch, 1, condition)?
+        .treat(&Switch, &[1, 1])
+        .map_err(|declined| declined.refusal)
+}
+
+// A lock whose one visit is over, in condition 1.
+fn past() -> Result<Arrived, RoundRefusal> {
+    in_care(0)?
+        .report(&Switch, 1)
+        .map_err(|declined| declined.refusal)
+}
+
+// The remedy that a lock is given, or why it is given none.
+fn treated<B: Book>(lock: Arrived, book: &B, remedies: &[u8]) -> Result<usize, RoundRefusal> {
+    match lock.treat(book, remedies) {
+        Ok(lock) => Ok(lock.remedy()),
+        Err(declined) => Err(declined.refusal),
     }
 }
 
-fn treated(lock: Arrived, remedies: &[u8]) -> Result<Treated, Fail> {
-    lock.treat(&Switch, remedies)
-        .map_err(|declined| Fail::new(declined.refusal.number()))
+// The visit that a lock comes to, or why it comes to none.
+fn reported<B: Book>(lock: Treated, book: &B, next: usize) -> Result<usize, RoundRefusal> {
+    match lock.report(book, next) {
+        Ok(lock) => Ok(lock.visit()),
+        Err(declined) => Err(declined.refusal),
+    }
 }
 
-fn reported(lock: Treated, next: usize) -> Result<Arrived, Fail> {
-    lock.report(&Switch, next)
-        .map_err(|declined| Fail::new(declined.refusal.number()))
+fn settled<B: Book>(lock: Arrived, book: &B) -> Result<i64, RoundRefusal> {
+    lock.settle(book).map_err(|declined| declined.refusal)
 }
 
 // The visits are asked about before the condition.
@@ -46,66 +63,51 @@ fn beginnings(rt: HostRuntime) {
 // Over before unknown, unknown before short, short before a remedy that is not offered.
 #[test]
 fn treatments(rt: HostRuntime) -> Result<(), Fail> {
-    let (lock, refusal) = declined(begin(&Switch, 2, 1)?.treat(&ListBook::blank(), &[5]))?;
-    assert_eq!(rt; refusal, Unknown);
-    let (lock, refusal) = declined(lock.treat(&Switch, &[0, 5, 0]))?;
-    assert_eq!(rt; refusal, Short);
-    let (lock, refusal) = declined(lock.treat(&Switch, &[0, 5, 0, 0]))?;
+    let unoffered = Rule {
+        visit: 1,
+        condition: 1,
+        remedy: 5,
+    };
     assert_eq!(rt;
-        refusal,
-        Rule {
-            visit: 1,
-            condition: 1,
-            remedy: 5,
-        }
+        treated(begin(&Switch, 2, 1)?, &ListBook::blank(), &[5]),
+        Err(Unknown)
     );
-    assert_eq!(rt; (lock.visits(), lock.visit(), lock.condition()), (2, 1, 1));
-    let lock = treated(lock, &[0, 1, 0, 0])?;
-    assert_eq!(rt; (lock.visit(), lock.condition(), lock.remedy()), (1, 1, 1));
-    let lock = treated(reported(lock, 1)?, &[0, 1, 0, 0, 7])?;
-    assert_eq!(rt; (lock.visit(), lock.condition(), lock.remedy()), (2, 1, 0));
-    let (lock, refusal) = declined(reported(lock, 0)?.treat(&ListBook::blank(), &[]))?;
-    assert_eq!(rt; refusal, Over);
     assert_eq!(rt;
-        (lock.visit(), lock.condition(), lock.collected()),
-        (3, 0, 0)
+        treated(begin(&Switch, 2, 1)?, &Switch, &[0, 5, 0]),
+        Err(Short)
     );
+    assert_eq!(rt;
+        treated(begin(&Switch, 2, 1)?, &Switch, &[0, 5, 0, 0]),
+        Err(unoffered)
+    );
+    assert_eq!(rt;
+        treated(begin(&Switch, 2, 1)?, &Switch, &[0, 1, 0, 0, 7]),
+        Ok(1)
+    );
+    assert_eq!(rt; treated(past()?, &ListBook::blank(), &[]), Err(Over));
     Ok(())
 }
 
 // Unknown, also of the lock's own condition or remedy, before impossible.
 #[test]
 fn reports(rt: HostRuntime) -> Result<(), Fail> {
-    let lock = treated(begin(&Switch, 1, 1)?, &[0, 1])?;
-    let (lock, refusal) = declined(lock.report(&Switch, 2))?;
-    assert_eq!(rt; refusal, Unknown);
-    let (lock, refusal) = declined(lock.report(&ListBook::blank(), 0))?;
-    assert_eq!(rt; refusal, Unknown);
-    let (lock, refusal) = declined(lock.report(&Switch, 0))?;
-    assert_eq!(rt; refusal, Impossible);
-    assert_eq!(rt;
-        (lock.visits(), lock.visit(), lock.condition(), lock.remedy()),
-        (1, 1, 1, 1)
-    );
-    let lock = treated(begin(&Switch, 1, 0)?, &[1, 0])?;
-    let (lock, refusal) = declined(lock.report(&ListBook::blank(), 0))?;
-    assert_eq!(rt; refusal, Unknown);
-    assert_eq!(rt;
-        (lock.condition(), lock.remedy(), lock.collected()),
-        (0, 1, 0)
-    );
+    assert_eq!(rt; reported(in_care(1)?, &Switch, 2), Err(Unknown));
+    assert_eq!(rt; reported(in_care(1)?, &ListBook::blank(), 0), Err(Unknown));
+    assert_eq!(rt; reported(in_care(0)?, &ListBook::blank(), 0), Err(Unknown));
+    assert_eq!(rt; reported(in_care(1)?, &Switch, 0), Err(Impossible));
+    assert_eq!(rt; reported(in_care(1)?, &Switch, 1), Ok(2));
     Ok(())
 }
 
 // Early before unknown.
 #[test]
 fn settlings(rt: HostRuntime) -> Result<(), Fail> {
-    let (lock, refusal) = declined(begin(&Switch, 1, 1)?.settle(&ListBook::blank()))?;
-    assert_eq!(rt; refusal, Early);
-    let lock = reported(treated(lock, &[0, 1])?, 1)?;
-    let (lock, refusal) = declined(lock.settle(&ListBook::blank()))?;
-    assert_eq!(rt; refusal, Unknown);
-    assert_eq!(rt; lock.settle(&Switch).ok(), Some(1));
+    assert_eq!(rt;
+        settled(begin(&Switch, 1, 1)?, &ListBook::blank()),
+        Err(Early)
+    );
+    assert_eq!(rt; settled(past()?, &ListBook::blank()), Err(Unknown));
+    assert_eq!(rt; settled(past()?, &Switch), Ok(1));
     Ok(())
 }
 
