@@ -6,3 +6,4 @@ pub mod FileCalls
 pub mod Reading
 pub mod Entered
 pub mod Advance
+pub mod Filling
