@@ -14,7 +14,7 @@ use Rattle.planning.proofs.Refused.PlanView.{at_accepted_plan}
 use Rattle.planning.proofs.Refused.JudgeView.{at_accepted_judge}
 
 -- a table kept past its first entries, with the same first entries
-whole_table : {V : Type 0} (n : ℕ) (vs xs ys : List V) → KeptPast n vs xs → KeptPast n vs ys → take n xs ≡ take n ys → xs ≡ ys
+pub whole_table : {V : Type 0} (n : ℕ) (vs xs ys : List V) → KeptPast n vs xs → KeptPast n vs ys → take n xs ≡ take n ys → xs ≡ ys
 whole_table n vs xs ys a b e = sym (take-append-drop n xs) ∙ (λ i. e i ++ (a.past ∙ sym b.past) i) ∙ take-append-drop n ys
 
 module _ {V A : Type 0} (o : Ops V A) (m : Model) (H : ℕ) (lawful : Lawful m) where

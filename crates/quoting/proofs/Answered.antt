@@ -1,10 +1,9 @@
 -- What is printed of an answer is a reply, and it leaves one thing in the tables.
-use Rattle.std.proofs.Common.{◌≡◌, ℕ, ◌+◌, ◌*◌, ◌≤◌, List, ◌++◌, length, take, Ok, Err, Result, sym, refl, ap, ◌∙◌, subst, arith, take-append-drop, mul-le-mul}
+use Rattle.std.proofs.Common.{◌≡◌, ℕ, ◌+◌, ◌*◌, ◌≤◌, length, Ok, Err, Result, sym, refl, ap, ◌∙◌, subst, arith, mul-le-mul}
 use Rattle.model.specs.Model.{offers}
-use Rattle.model.specs.Tables.{KeptPast}
 use Rattle.checks.specs.Acceptance.{InOrder}
 use Rattle.checks.specs.declared.refusal.PlanRefusal.{PlanRefusal}
-use Rattle.planning.proofs.Determined.{plans_are_determined}
+use Rattle.planning.proofs.Determined.{whole_table, plans_are_determined}
 use Rattle.fields.specs.Numerals.{Bytes}
 use Rattle.fields.specs.Checking.{reported, Checked}
 use Rattle.fields.specs.Checking.Checked.{good, faulty}
@@ -68,9 +67,6 @@ left_by bs (Err Long) t t' x = (faulty (reported 25 0 0), too_long x.0, x.1)
 left_by bs (Err (Question f)) t t' x = (faulty (reported_line f), in_question (reported_line f) x.0 x.1, x.2)
 left_by bs (Err (File f)) t t' x = (faulty (reported_file f), in_file (reported_file f) x.0 x.1, x.2)
 left_by bs (Err (Plan f)) t t' (a, asks, planned) = (good a, asks, (Err f, planned))
-
-whole_table : {X : Type 0} (n : ℕ) (vs xs ys : List X) → KeptPast n vs xs → KeptPast n vs ys → take n xs ≡ take n ys → xs ≡ ys
-whole_table n vs xs ys a b e = sym (take-append-drop n xs) ∙ (λ i. e i ++ (a.past ∙ sym b.past) i) ∙ take-append-drop n ys
 
 one_left : (bs : Bytes) (x : Checked Request) (t t' u' : Tables) → Asks bs x → Leaves x t t' → Leaves x t u' → TablesKept t' u'
 one_left bs (good a) t t' u' asks (answer, p) (answer', q) =

@@ -8,7 +8,8 @@ use Rattle.checks.specs.Acceptance.{InOrder}
 use Rattle.checks.specs.declared.refusal.PlanRefusal.{PlanRefusal}
 use Rattle.planning.specs.Plans.{PlanAnswers}
 use Rattle.planning.proofs.Agreeing.{plans_agree_lem}
-use Rattle.planning.proofs.Refused.{PlanView, one_plan, seen_plan}
+use Rattle.planning.proofs.Determined.{plan_seen}
+use Rattle.planning.proofs.Refused.{PlanView, one_plan}
 use Rattle.planning.proofs.Refused.PlanView.{at_visits_plan, at_short_plan, at_stuck_plan, at_uneven_plan, at_fine_plan, at_accepted_plan}
 use Rattle.fields.specs.Numerals.{Bytes, numeral}
 use Rattle.fields.specs.Lines.{line}
@@ -29,7 +30,7 @@ lawful_meaning b (shaped, fits) =
     (λ i l. let f = ((fits 1 i (inl (refl, l))).0 refl).0 in (f.some_share, f.few_share, f.small_amount))
     (λ i l. (fits 3 i (inr (inr (refl, l)))).1 refl)
 
-module _ {V A : Type 0} (o : Ops V A) (m : Model) (H : ℕ) where
+module _ {V A : Type 0} (o : Ops V A) (m : Model) (H : ℕ) (lawful : Lawful m) where
   -- what a plan answers, seen for other tables that have room
   seen : (v w v' w' : ℕ) (a : Result ℕ PlanRefusal) → InOrder (offers m) H v w → InOrder (offers m) H v' w' → PlanView m H v w a → PlanView m H v' w' a
   seen v w v' w' _ here there (at_visits_plan bad) = absurd (⊎_elim (λ l. omega (arith, here.some)) (λ l. omega (arith, here.few)) bad)
@@ -39,12 +40,8 @@ module _ {V A : Type 0} (o : Ops V A) (m : Model) (H : ℕ) where
   seen v w v' w' _ here there (at_fine_plan order named even large) = at_fine_plan there named even large
   seen v w v' w' _ here there (at_accepted_plan n count order named even fits) = at_accepted_plan n count there named even fits
 
-  plan_seen : (vs vs' : List V) (rs rs' : List ℕ) (a : Result ℕ PlanRefusal) → PlanAnswers o m H a vs vs' rs rs' → PlanView m H (length vs) (length rs) a
-  plan_seen vs vs' rs rs' (Ok n) (count, taken, plan) = at_accepted_plan n count taken.in_order taken.openly taken.evenly taken.fitting
-  plan_seen vs vs' rs rs' (Err f) x = seen_plan m H (length vs) (length rs) f x.1
-
   one_answer : (vs vs' ws ws' : List V) (rs rs' qs qs' : List ℕ) (a b : Result ℕ PlanRefusal) → InOrder (offers m) H (length vs) (length rs) → InOrder (offers m) H (length ws) (length qs) → PlanAnswers o m H a vs vs' rs rs' → PlanAnswers o m H b ws ws' qs qs' → a ≡ b
-  one_answer vs vs' ws ws' rs rs' qs qs' a b here there x y = one_plan m H (length ws) (length qs) (seen (length vs) (length rs) (length ws) (length qs) a here there (plan_seen vs vs' rs rs' a x)) (plan_seen ws ws' qs qs' b y)
+  one_answer vs vs' ws ws' rs rs' qs qs' a b here there x y = one_plan m H (length ws) (length qs) (seen (length vs) (length rs) (length ws) (length qs) a here there (plan_seen o m H lawful vs vs' rs rs' a x)) (plan_seen o m H lawful ws ws' qs qs' b y)
 
 -- the first lines are printed alike of tables that agree on so many entries
 same_entry : {V : Type 0} (d : V) (k i : ℕ) (xs ys : List V) → take k xs ≡ take k ys → i < k → get_or xs i d ≡ get_or ys i d
@@ -71,7 +68,7 @@ module _ (a : Request) (lawful : LawfulBook a.book) where
 
   pub one_reply : (output other : Bytes) → Tells a output → Tells a other → other ≡ output
   one_reply output other x y =
-      let e = one_answer (criterion a.by) m a.visits y.values y.planned_values x.values x.planned_values y.remedies y.planned_remedies x.remedies x.planned_remedies y.answer x.answer y.in_order x.in_order y.plans x.plans in
+      let e = one_answer (criterion a.by) m a.visits (lawful_meaning a.book lawful) y.values y.planned_values x.values x.planned_values y.remedies y.planned_remedies x.remedies x.planned_remedies y.answer x.answer y.in_order x.in_order y.plans x.plans in
       y.prints
       ∙ ap (λ (z : Result ℕ PlanRefusal). told a.book.conditions z y.planned_values y.planned_remedies) e
       ∙ told_same y.values y.planned_values x.values x.planned_values y.remedies y.planned_remedies x.remedies x.planned_remedies x.answer (subst (λ (z : Result ℕ PlanRefusal). PlanAnswers (criterion a.by) m a.visits z y.values y.planned_values y.remedies y.planned_remedies) e y.plans) x.plans

@@ -65,11 +65,10 @@ abbrev pub Asks : Bytes → Checked Request → Type 0
 Asks bs (good a) = (length bs ≤ 32768) × (bs ≡ input_of a) × WellAsked a
 Asks bs (faulty f) = AskFaulty bs f
 
--- the same, computed
+-- the same, computed: the criterion of a letter, and what the values of a Q line and the book after it ask
 abbrev pub named_by : (letter : ℕ) → By
 named_by l = cond (l == 77) Mean Floor
 
--- of the values of the Q line and the book after it
 abbrev pub request_of : List ℤ → WrittenBook → Request
 request_of zs b = record { visits = size_at zs 0; by = named_by (size_at zs 1); book = b }
 

@@ -2,7 +2,8 @@
 ghost use Rattle.quoting.specs.Inputs.{AskingIsExact};
 ghost use Rattle.quoting.specs.Quotes.{OneQuote, AnswersAreOne};
 
-// What an input asks, or its first fault, is computed exactly; no input has two outputs, and none two answers.
+// What an input asks, or its first fault, is computed exactly; no input has two outputs, and two answers to it print
+// alike and leave the same tables.
 pub fn quotes_are_one()
     ensures exact { AskingIsExact }
     ensures one_output { OneQuote }
