@@ -30,12 +30,12 @@ def bugs():
 
 
 def first_refusal(said):
-    """What the checker says first: a source line where a fact is missing, or a place in a proof."""
+    """The first place that the checker names: a fact that is not proved in the source, or an error."""
     for line in said.split('\n'):
-        found = re.match(r'(?:note: |error: )?(?:\./)?((?:src|proofs)/\S+?):(\d+):\d+: (.*)', line)
-        if found and 'only=' not in line:
-            return f'{found[1]}:{found[2]}', found[3]
-    return None, said.strip().split('\n')[-1]
+        found = re.match(r'(?:note: )?(?:\./)?((?:src|proofs)/\S+?):(\d+):\d+: (error|it is not proved)', line)
+        if found:
+            return f'`{found[1]}:{found[2]}`'
+    return said.strip().split('\n')[-1]
 
 
 def try_bug(copy, path, old, new):
@@ -53,8 +53,7 @@ def try_bug(copy, path, old, new):
         file.write(text)
     if run.returncode == 0:
         return 'passes', ''
-    where, why = first_refusal(run.stdout + run.stderr)
-    return 'refused', f'`{where}`' if where else why
+    return 'refused', first_refusal(run.stdout + run.stderr)
 
 
 def main():
