@@ -2,6 +2,8 @@
 #![tactic(auto)]
 
 pub mod outlook;
+#[cfg(test)]
+mod round_tests;
 pub mod switch;
 #[cfg(test)]
 mod tests;
