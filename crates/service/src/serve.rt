@@ -12,6 +12,7 @@ use planning::plan::plan;
 use sheets::sheet::Sheet;
 
 // One call, under the notes that stand.
+#[tactic(auto, using(crate::proofs::Performed::judged, crate::proofs::Performed::planned, crate::proofs::Performed::led, crate::proofs::Performed::taken_up))]
 fn perform<B: Book, C: Criterion>(
     sheet: &mut Sheet<B>,
     call: &mut Call<C, C::Value>,
