@@ -1,6 +1,8 @@
 // A small book and two small criteria, planned by the same text as any other.
 #![tactic(auto)]
 
+#[cfg(test)]
+mod list_tests;
 pub mod outlook;
 #[cfg(test)]
 mod round_tests;

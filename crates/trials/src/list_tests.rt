@@ -1,6 +1,4 @@
 // Lists of calls, accepted and declined, on a small book; the numbers are worked out by hand.
-use super::call::{Call, CallRefusal, Request};
-use super::serve::serve;
 use books::list::ListBook;
 use books::record::Record;
 use checks::refusal::PlanRefusal;
@@ -8,8 +6,9 @@ use criteria::by::By;
 use criteria::floor::Floor;
 use criteria::mean::Mean;
 use following::call::{Reply, RoundCall, Turn};
-use following::follow::Unfollowed;
 use rounds::refusal::RoundRefusal;
+use service::call::{Call, CallRefusal, Request};
+use service::serve::serve;
 use sheets::refusal::NoteRefusal;
 use sheets::sheet::Sheet;
 use std::alloc::{AllocError, Global};
@@ -71,79 +70,75 @@ fn judgement(heap: Global, remedies: [u8; 2]) -> Result<Request<By, i64>, AllocE
     }))
 }
 
-fn requests(heap: Global) -> Result<[Request<By, i64>; 8], AllocError> {
-    let by_mean = plan(heap, By::Mean(Mean::of(2)), 2)?;
-    let by_floor = plan(heap, By::Floor(Floor), 2)?;
-    let judged = judgement(heap, [0, 1])?;
-    let misnamed = judgement(heap, [0, 0])?;
-    Ok([
-        by_mean,
-        Request::new(Call::Bar {
-            condition: 1,
-            remedy: 1,
-            first: 2,
-            last: 2,
-        }),
-        by_floor,
-        Request::new(Call::Lift { place: 2 }),
-        Request::new(Call::Lift { place: 1 }),
-        Request::new(Call::Surcharge {
-            remedy: 0,
-            amount: -4,
-            first: 1,
-            last: 1,
-        }),
-        judged,
-        misnamed,
-    ])
-}
-
-const ANSWERS: [Result<usize, CallRefusal>; 8] = [
-    Ok(4),
-    Ok(1),
-    Err(CallRefusal::Plan(PlanRefusal::Stuck {
-        visit: 2,
-        condition: 1,
-    })),
-    Err(CallRefusal::Note(NoteRefusal::Unknown)),
-    Ok(0),
-    Ok(1),
-    Ok(2),
-    Err(CallRefusal::Plan(PlanRefusal::Rule {
-        visit: 1,
-        condition: 1,
-        remedy: 0,
-    })),
-];
-
-fn values_of(call: &Call<By, i64>) -> &[i64] {
-    match call {
-        Call::Judge { values, .. } | Call::Plan { values, .. } => values.as_slice(),
-        _ => &[],
-    }
-}
-
 fn door(heap: Global) -> Result<Sheet<ListBook<'static>>, Fail> {
     let book = ListBook::new(2, 2, 2, &DOOR, &[0; 2]).map_err(|_| Fail::new("no book"))?;
     Sheet::new(heap, book).map_err(|_| Fail::new("no memory"))
 }
 
-// Each call is answered under the notes standing when it comes; what is declined keeps its tables, and the next is served.
-#[test]
-fn mixed_list(rt: HostRuntime) -> Result<(), Fail> {
-    let mut sheet = door(rt.alloc())?;
-    let mut requests = requests(rt.alloc())?;
-    serve(&mut sheet, &mut requests);
-    for (request, answer) in requests.iter().zip(ANSWERS) {
-        assert_eq!(rt; request.answer, Some(answer));
+fn values_of(request: &Request<By, i64>) -> &[i64] {
+    match &request.call {
+        Call::Judge { values, .. } | Call::Plan { values, .. } => values.as_slice(),
+        _ => &[],
     }
+}
+
+// A plan answers under the notes that stand when it comes; declined, its table stays full of sevens.
+#[test]
+fn under_the_notes(rt: HostRuntime) -> Result<(), Fail> {
+    let mut sheet = door(rt.alloc())?;
+    let by_mean = plan(rt.alloc(), By::Mean(Mean::of(2)), 2)?;
+    let by_floor = plan(rt.alloc(), By::Floor(Floor), 2)?;
+    let bar = Request::new(Call::Bar {
+        condition: 1,
+        remedy: 1,
+        first: 2,
+        last: 2,
+    });
+    let mut requests = [by_mean, bar, by_floor];
+    serve(&mut sheet, &mut requests);
+    let stuck = CallRefusal::Plan(PlanRefusal::Stuck {
+        visit: 2,
+        condition: 1,
+    });
+    assert_eq!(rt; requests[0].answer, Some(Ok(4)));
+    assert_eq!(rt; requests[1].answer, Some(Ok(1)));
+    assert_eq!(rt; requests[2].answer, Some(Err(stuck)));
     assert_eq!(rt;
-        values_of(&requests[0].call),
+        values_of(&requests[0]),
         [-12, -40, 0, -20, 0, 0].as_slice()
     );
-    assert_eq!(rt; values_of(&requests[2].call), [7; 6].as_slice());
-    assert_eq!(rt; values_of(&requests[6].call), [-4, -10, 0, 0].as_slice());
-    assert_eq!(rt; values_of(&requests[7].call), [7; 4].as_slice());
+    assert_eq!(rt; values_of(&requests[2]), [7; 6].as_slice());
+    Ok(())
+}
+
+// After a call that is declined the next are performed like any others.
+#[test]
+fn after_declined(rt: HostRuntime) -> Result<(), Fail> {
+    let mut sheet = door(rt.alloc())?;
+    let misnamed = judgement(rt.alloc(), [0, 0])?;
+    let judged = judgement(rt.alloc(), [0, 1])?;
+    let surcharge = Request::new(Call::Surcharge {
+        remedy: 0,
+        amount: -4,
+        first: 1,
+        last: 1,
+    });
+    let lift = Request::new(Call::Lift { place: 1 });
+    let mut requests = [lift, surcharge, misnamed, judged];
+    serve(&mut sheet, &mut requests);
+    let rule = CallRefusal::Plan(PlanRefusal::Rule {
+        visit: 1,
+        condition: 1,
+        remedy: 0,
+    });
+    assert_eq!(rt;
+        requests[0].answer,
+        Some(Err(CallRefusal::Note(NoteRefusal::Unknown)))
+    );
+    assert_eq!(rt; requests[1].answer, Some(Ok(1)));
+    assert_eq!(rt; requests[2].answer, Some(Err(rule)));
+    assert_eq!(rt; requests[3].answer, Some(Ok(2)));
+    assert_eq!(rt; values_of(&requests[3]), [-4, -10, 0, 0].as_slice());
     Ok(())
 }
 
@@ -173,12 +168,18 @@ fn round(heap: Global, condition: usize) -> Result<Request<By, i64>, AllocError>
     }))
 }
 
+fn reply_of(request: &Request<By, i64>, turn: usize) -> Option<Reply> {
+    match &request.call {
+        Call::Round { turns, .. } => turns.get(turn)?.reply,
+        _ => None,
+    }
+}
+
 // The floor braces at visit 1 and leaves at visit 2; a door that is braced does not break.
 #[test]
-fn rounds(rt: HostRuntime) -> Result<(), Fail> {
+fn led_round(rt: HostRuntime) -> Result<(), Fail> {
     let mut sheet = door(rt.alloc())?;
-    let led = round(rt.alloc(), 0)?;
-    let mut requests = [led, round(rt.alloc(), 2)?];
+    let mut requests = [round(rt.alloc(), 0)?];
     serve(&mut sheet, &mut requests);
     assert_eq!(rt; requests[0].answer, Some(Ok(6)));
     let replies = [
@@ -190,12 +191,8 @@ fn rounds(rt: HostRuntime) -> Result<(), Fail> {
         Some(Reply::Settled { total: -3 }),
         None,
     ];
-    if let Call::Round { turns, .. } = &requests[0].call {
-        for (turn, reply) in turns.iter().zip(replies) {
-            assert_eq!(rt; turn.reply, reply);
-        }
+    for (turn, reply) in replies.iter().enumerate() {
+        assert_eq!(rt; reply_of(&requests[0], turn), *reply);
     }
-    let unknown = CallRefusal::Round(Unfollowed::Begin(RoundRefusal::Unknown));
-    assert_eq!(rt; requests[1].answer, Some(Err(unknown)));
     Ok(())
 }
