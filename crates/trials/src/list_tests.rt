@@ -12,6 +12,7 @@ use service::serve::serve;
 use sheets::refusal::NoteRefusal;
 use sheets::sheet::Sheet;
 use std::alloc::{AllocError, Global};
+use std::process::Abort;
 use std::test::Fail;
 
 // A door of two parts: whole (0) it may be left, and breaks (1) in one part of two, or be braced for 3 and stay whole;
@@ -82,10 +83,23 @@ fn values_of(request: &Request<By, i64>) -> &[i64] {
     }
 }
 
+// Serves the requests on a new sheet over the door, and compares the answers.
+fn served(
+    rt: &impl Abort,
+    heap: Global,
+    requests: &mut [Request<By, i64>],
+    answers: &[Result<usize, CallRefusal>],
+) -> Result<(), Fail> {
+    serve(&mut door(heap)?, requests);
+    for (request, answer) in requests.iter().zip(answers) {
+        assert_eq!(rt; request.answer, Some(*answer));
+    }
+    Ok(())
+}
+
 // A plan answers under the notes that stand when it comes; declined, its table stays full of sevens.
 #[test]
 fn under_the_notes(rt: HostRuntime) -> Result<(), Fail> {
-    let mut sheet = door(rt.alloc())?;
     let by_mean = plan(rt.alloc(), By::Mean(Mean::of(2)), 2)?;
     let by_floor = plan(rt.alloc(), By::Floor(Floor), 2)?;
     let bar = Request::new(Call::Bar {
@@ -95,26 +109,20 @@ fn under_the_notes(rt: HostRuntime) -> Result<(), Fail> {
         last: 2,
     });
     let mut requests = [by_mean, bar, by_floor];
-    serve(&mut sheet, &mut requests);
     let stuck = CallRefusal::Plan(PlanRefusal::Stuck {
         visit: 2,
         condition: 1,
     });
-    assert_eq!(rt; requests[0].answer, Some(Ok(4)));
-    assert_eq!(rt; requests[1].answer, Some(Ok(1)));
-    assert_eq!(rt; requests[2].answer, Some(Err(stuck)));
-    assert_eq!(rt;
-        values_of(&requests[0]),
-        [-12, -40, 0, -20, 0, 0].as_slice()
-    );
-    assert_eq!(rt; values_of(&requests[2]), [7; 6].as_slice());
+    served(&rt, rt.alloc(), &mut requests, &[Ok(4), Ok(1), Err(stuck)])?;
+    let [planned, _, declined] = &requests;
+    assert_eq!(rt; values_of(planned), [-12, -40, 0, -20, 0, 0].as_slice());
+    assert_eq!(rt; values_of(declined), [7; 6].as_slice());
     Ok(())
 }
 
 // After a call that is declined the next are performed like any others.
 #[test]
 fn after_declined(rt: HostRuntime) -> Result<(), Fail> {
-    let mut sheet = door(rt.alloc())?;
     let misnamed = judgement(rt.alloc(), [0, 0])?;
     let judged = judgement(rt.alloc(), [0, 1])?;
     let surcharge = Request::new(Call::Surcharge {
@@ -125,20 +133,20 @@ fn after_declined(rt: HostRuntime) -> Result<(), Fail> {
     });
     let lift = Request::new(Call::Lift { place: 1 });
     let mut requests = [lift, surcharge, misnamed, judged];
-    serve(&mut sheet, &mut requests);
+    let unknown = CallRefusal::Note(NoteRefusal::Unknown);
     let rule = CallRefusal::Plan(PlanRefusal::Rule {
         visit: 1,
         condition: 1,
         remedy: 0,
     });
-    assert_eq!(rt;
-        requests[0].answer,
-        Some(Err(CallRefusal::Note(NoteRefusal::Unknown)))
-    );
-    assert_eq!(rt; requests[1].answer, Some(Ok(1)));
-    assert_eq!(rt; requests[2].answer, Some(Err(rule)));
-    assert_eq!(rt; requests[3].answer, Some(Ok(2)));
-    assert_eq!(rt; values_of(&requests[3]), [-4, -10, 0, 0].as_slice());
+    served(
+        &rt,
+        rt.alloc(),
+        &mut requests,
+        &[Err(unknown), Ok(1), Err(rule), Ok(2)],
+    )?;
+    let [_, _, _, judged] = &requests;
+    assert_eq!(rt; values_of(judged), [-4, -10, 0, 0].as_slice());
     Ok(())
 }
 
@@ -178,10 +186,8 @@ fn reply_of(request: &Request<By, i64>, turn: usize) -> Option<Reply> {
 // The floor braces at visit 1 and leaves at visit 2; a door that is braced does not break.
 #[test]
 fn led_round(rt: HostRuntime) -> Result<(), Fail> {
-    let mut sheet = door(rt.alloc())?;
-    let mut requests = [round(rt.alloc(), 0)?];
-    serve(&mut sheet, &mut requests);
-    assert_eq!(rt; requests[0].answer, Some(Ok(6)));
+    let mut led = [round(rt.alloc(), 0)?];
+    served(&rt, rt.alloc(), &mut led, &[Ok(6)])?;
     let replies = [
         Some(Reply::Treated { remedy: 1 }),
         Some(Reply::Declined(RoundRefusal::Impossible)),
@@ -192,7 +198,7 @@ fn led_round(rt: HostRuntime) -> Result<(), Fail> {
         None,
     ];
     for (turn, reply) in replies.iter().enumerate() {
-        assert_eq!(rt; reply_of(&requests[0], turn), *reply);
+        assert_eq!(rt; reply_of(&led[0], turn), *reply);
     }
     Ok(())
 }
