@@ -15,12 +15,12 @@ pub data Cuts : (n at : ℕ) → Bytes → List Kind → Checked (List ℤ) → 
   one_read : {n at m o n' at' : ℕ} {rest after : Bytes} {g : Field} {t : Kind} {ts : List Kind} {z : ℤ} {r : Checked (List ℤ)} → CutField n at rest m o g → LeftAfter n at rest n' at' after → check_field m o t (bytes_of g) ≡ good z → Cuts n' at' after ts r → Cuts n at rest (t ∷ ts) (and_then r (λ zs. good (z ∷ zs)))
   at_fault : {n at m o : ℕ} {rest : Bytes} {g : Field} {t : Kind} {ts : List Kind} {x : Reported} → CutField n at rest m o g → check_field m o t (bytes_of g) ≡ faulty x → Cuts n at rest (t ∷ ts) (faulty x)
 
-next_left : (rest after : Bytes) (f : Bytes) (fs : List Bytes) (k i n at : ℕ) → split 9 rest ≡ (f, fs) → LeftAfter k i rest n at after → Left after fs
+pub next_left : (rest after : Bytes) (f : Bytes) (fs : List Bytes) (k i n at : ℕ) → split 9 rest ≡ (f, fs) → LeftAfter k i rest n at after → Left after fs
 next_left rest after f [] k i n at e a = tt
 next_left rest after f (g ∷ gs) k i n at e a = a.parts_are g gs (ap (λ p. p.1) e)
 
 -- the field that was cut off is the first of the line's fields that are left
-same_field : {n at m o : ℕ} {rest : Bytes} {g : Field} → CutField n at rest m o g → (k i : ℕ) (t : Kind) (f : Bytes) (fs : List Bytes) → n ≡ k → at ≡ i → split 9 rest ≡ (f, fs) → check_field k i t f ≡ check_field m o t (bytes_of g)
+pub same_field : {n at m o : ℕ} {rest : Bytes} {g : Field} → CutField n at rest m o g → (k i : ℕ) (t : Kind) (f : Bytes) (fs : List Bytes) → n ≡ k → at ≡ i → split 9 rest ≡ (f, fs) → check_field k i t f ≡ check_field m o t (bytes_of g)
 same_field {n} {at} {m} {o} {rest} {g} c k i t f fs l p left =
     let line : m ≡ k = c.line_is ∙ l in
     let place : o ≡ i = c.place_is ∙ p in

@@ -1,0 +1,3 @@
+pub mod Wording
+pub mod Tabled
+pub mod Ordered

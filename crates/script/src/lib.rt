@@ -1,0 +1,6 @@
+// A script of the desk: where it begins in an input, and what its lines say.
+#![tactic(auto)]
+
+pub mod command;
+mod reading;
+mod word;
