@@ -1,5 +1,5 @@
 -- A line whose word is known and has the right count of fields.
-use Rattle.std.proofs.Common.{◌≡◌, ℕ, suc, ◌+◌, ◌-◌, ◌<◌, ◌≤◌, Bool, true, false, cond, List, [], ◌∷◌, length, Some, Ok, Err, Result, sym, refl, ap, ◌∙◌, subst, arith}
+use Rattle.std.proofs.Common.{◌≡◌, ℕ, suc, ◌+◌, ◌-◌, ◌≤◌, Bool, true, false, cond, List, [], ◌∷◌, length, Some, Ok, Result, sym, refl, ap, ◌∙◌, subst, arith}
 use Rattle.std.specs.Prelude.{◌==◌}
 use Rattle.std.proofs.lemmas.List.{length-replicate}
 use Rattle.std.proofs.lemmas.Bool.{eq-eqb}
@@ -10,14 +10,12 @@ use Rattle.fields.specs.Checking.{reported, Checked, and_then}
 use Rattle.fields.specs.Checking.Checked.{good, faulty}
 use Rattle.fields.specs.Views.{bytes_of, CutField, LeftAfter}
 use Rattle.bookfile.specs.Entered.{Left}
-use Rattle.bookfile.proofs.Cutting.{next_left}
 use Rattle.script.specs.declared.command.Command.{Command}
 use Rattle.script.specs.declared.command.Unread.{Unread}
 use Rattle.script.specs.declared.word.Word.{Word}
-use Rattle.script.specs.declared.word.Word.TheVariants.{Judge, Treat, Settle}
+use Rattle.script.specs.declared.word.Word.TheVariants.{Judge}
 use Rattle.script.specs.Words.{word_in}
 use Rattle.script.specs.Orders.{Order, form, remedy}
-use Rattle.script.specs.Orders.Order.{turns}
 use Rattle.script.specs.Forms.{known, check_rest, check_order}
 use Rattle.script.specs.Commands.{order_of, RestRead, JudgeRead, CommandAnswers}
 

@@ -1,5 +1,5 @@
 -- The remedies of a table, cut off one by one.
-use Rattle.std.proofs.Common.{◌≡◌, ℕ, suc, ◌+◌, ◌-◌, ◌^◌, ◌<◌, min, List, [], ◌∷◌, ◌++◌, length, map, replicate, ℤ, pos, Err, sym, refl, ap, ◌∙◌, subst, append_assoc, append-nil, arith}
+use Rattle.std.proofs.Common.{◌≡◌, ℕ, suc, ◌+◌, ◌-◌, ◌^◌, ◌<◌, List, [], ◌∷◌, ◌++◌, length, map, replicate, ℤ, pos, Err, sym, refl, ap, ◌∙◌, append_assoc, append-nil, arith}
 use Rattle.std.specs.Prelude.{unsigned_abs}
 use Rattle.std.proofs.lemmas.List.{map-append}
 use Rattle.fields.specs.declared.parts.Field.{Field}
@@ -99,13 +99,16 @@ judge_checked {k} {at} {m} {o} {n'} {at'} {m'} {o'} {n''} {at''} {count} {b} {v}
     let more : length (f ∷ f' ∷ gs) - 2 ≡ count = omega arith in
     let l' = next_left rest after f (f' ∷ gs) k at n' at' l a in
     let read : check_field k 2 letter f ≡ good (pos b) = same_field c k 2 letter f (f' ∷ gs) refl p l ∙ e in
-    let read' : check_field k 3 number f' ≡ good (pos v) = same_field c' k 3 number f' gs line second l' ∙ e' in
-    (gs, next_left after after' f' gs n' at' n'' at'' l' a', many,
-    ap (λ x. judging x (check_field k 3 number f') (check_fields k 4 (replicate (length (f ∷ f' ∷ gs) - 2) remedy) gs)) read
-    ∙ ap (λ y. judging (good (pos b)) y (check_fields k 4 (replicate (length (f ∷ f' ∷ gs) - 2) remedy) gs)) read'
-    ∙ judging_good b v (check_fields k 4 (replicate (length (f ∷ f' ∷ gs) - 2) remedy) gs)
-    ∙ ap (λ r. and_then r (λ zs. good (order_from Judge (pos b ∷ pos v ∷ zs))))
-    (ap (λ n. check_fields k 4 (replicate n remedy) gs) more ∙ ap (λ i. check_fields k i (replicate count remedy) gs) (sym third) ∙ ap (λ x. check_fields x at'' (replicate count remedy) gs) (sym line')))
+    let read' : check_field k 3 number f' ≡ good (pos v) = same_field c' k 3 number f' gs line second l' ∙ e' in (
+      gs,
+      next_left after after' f' gs n' at' n'' at'' l' a',
+      many,
+      ap (λ x. judging x (check_field k 3 number f') (check_fields k 4 (replicate (length (f ∷ f' ∷ gs) - 2) remedy) gs)) read
+          ∙ ap (λ y. judging (good (pos b)) y (check_fields k 4 (replicate (length (f ∷ f' ∷ gs) - 2) remedy) gs)) read'
+          ∙ judging_good b v (check_fields k 4 (replicate (length (f ∷ f' ∷ gs) - 2) remedy) gs)
+          ∙ ap (λ r. and_then r (λ zs. good (order_from Judge (pos b ∷ pos v ∷ zs))))
+          (ap (λ n. check_fields k 4 (replicate n remedy) gs) more ∙ ap (λ i. check_fields k i (replicate count remedy) gs) (sym third) ∙ ap (λ x. check_fields x at'' (replicate count remedy) gs) (sym line')),
+    )
 
 -- what is answered of the remedies is answered of all fields
 pub judge_stopped : (x : Checked Order) (y : Checked (List ℤ)) (by v : ℤ) (e : Unread) → x ≡ and_then y (λ zs. good (order_from Judge (by ∷ v ∷ zs))) → TableAnswers y (Err e) → CommandAnswers x (Err e)
@@ -122,4 +125,3 @@ sizes (x ∷ xs) = ap (λ ys. x ∷ ys) (sizes xs)
 
 pub judge_good : (x : Checked Order) (y : Checked (List ℤ)) (by : By) (v : ℕ) (xs : List ℕ) → x ≡ and_then y (λ zs. good (order_from Judge (pos (letter_of by) ∷ pos v ∷ zs))) → y ≡ good (map pos xs) → x ≡ good (judges by v xs)
 judge_good x y by v xs h t = h ∙ ap (λ r. and_then r (λ zs. good (order_from Judge (pos (letter_of by) ∷ pos v ∷ zs)))) t ∙ ap (λ c. good (judges c v (map unsigned_abs (map pos xs)))) (by_its_letter by) ∙ ap (λ ys. good (judges by v ys)) (sizes xs)
-

@@ -1,5 +1,5 @@
 -- The words that lines of a script begin with.
-use Rattle.std.specs.Prelude.{Bool, List, Option, codes}
+use Rattle.std.specs.Prelude.{Option, codes}
 use Rattle.std.specs.List.{find}
 use Rattle.std.specs.Str.{bytes_eq}
 use Rattle.fields.specs.Numerals.{Bytes}

@@ -2,5 +2,7 @@
 #![tactic(auto)]
 
 pub mod command;
+pub mod parts;
 mod reading;
+pub mod script;
 mod word;

@@ -1,6 +1,6 @@
-use Rattle.std.proofs.Common.{◌≡◌, ℕ, suc, ◌+◌, ◌-◌, ◌<◌, arith, rules}
+use Rattle.std.proofs.Common.{◌≡◌, suc, ◌+◌, ◌-◌, arith}
 use Rattle.std.proofs.lemmas.Result.{err_from_is_err_and}
-use Rattle.script.proofs.Tabled.{SoFar, none_read, one_more, one_faulty}
+use Rattle.script.proofs.Tabled.{none_read, one_more, one_faulty}
 use Rattle.script.proofs.reading.remedies_in.Goals as goal
 
 pub loop-init : goal.loop-init

@@ -1,4 +1,4 @@
-use Rattle.std.proofs.Common.{◌≡◌, List, [], ◌∷◌, ℤ, pos, ap, ◌∙◌, w64, SFits, arith, rules}
+use Rattle.std.proofs.Common.{ap, ◌∙◌, w64, SFits, arith, rules}
 use Rattle.std.proofs.lemmas.Result.{err_from_is_err_and}
 use Rattle.std.proofs.lemmas.Int.{to_z-of_z}
 use Rattle.fields.specs.Checking.{and_then}
@@ -6,8 +6,7 @@ use Rattle.fields.specs.Checking.Checked.{good}
 use Rattle.bookfile.proofs.Cutting.{after_letter}
 use Rattle.bookfile.proofs.Cutting.Cuts.{all_read, one_read, at_fault}
 use Rattle.script.specs.declared.word.Word.TheVariants.{Surcharge}
-use Rattle.script.specs.Orders.{number, amount, form, order_from}
-use Rattle.script.specs.Orders.Order.{surcharges}
+use Rattle.script.specs.Orders.{form, order_from}
 use Rattle.script.proofs.reading.surcharge_in.Goals as goal
 
 pub returns-in_err-number_in-3 : goal.returns-in_err-number_in-3
