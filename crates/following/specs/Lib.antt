@@ -1,0 +1,5 @@
+pub mod Refusals
+pub mod Runs
+pub mod Courses
+pub mod Following
+pub mod Laws
