@@ -10,3 +10,4 @@ pub mod Least
 pub mod Optimal
 pub mod Best
 pub mod Mixed
+pub mod By

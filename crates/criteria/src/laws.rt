@@ -6,8 +6,14 @@ ghost use Rattle.criteria.specs.Least.{FloorIsLeast};
 ghost use Rattle.criteria.specs.Optimal.{GreedyIsUnbeaten, PlanIsUnbeaten, TableIsUnbeaten, PolicyIffOffered, OfferedHasOne, StuckHasNone, OfferedOrStuck};
 ghost use Rattle.criteria.specs.Best.{MeanPlanIsBest, FloorPlanIsBest, PremisesCanBeMet};
 ghost use Rattle.criteria.specs.Mixed.{FloorThenMeanIsLawless};
+ghost use Rattle.std.specs.Prelude.{◌≡◌};
+ghost use Rattle.criteria.specs.Mean.{mean};
+ghost use Rattle.criteria.specs.Floor.{floor};
 
+use super::by::By;
 use super::criterion::Criterion;
+use super::floor::Floor;
+use super::mean::Mean;
 
 // There is a policy exactly where every condition has an offered remedy at every visit.
 pub fn policies_exist_where_offered()
@@ -54,4 +60,10 @@ pub fn premises_can_be_met()
 // The floor first and the mean among equal floors: a criterion that keeps the laws cannot be had.
 pub fn floor_then_mean_breaks_the_laws()
     ensures lawless { FloorThenMeanIsLawless }
+{}
+
+// A criterion that is chosen reckons as the one that was chosen.
+pub fn chosen_criteria_reckon_as_themselves()
+    ensures mean { (by : Mean) → ⟦<By as Criterion>⟧.ops (By.Mean by) ≡ mean }
+    ensures floor { (by : Floor) → ⟦<By as Criterion>⟧.ops (By.Floor by) ≡ floor }
 {}

@@ -1,4 +1,5 @@
 // The two criteria on numbers worked out by hand.
+use super::by::By;
 use super::criterion::Criterion;
 use super::floor::Floor;
 use super::mean::Mean;
@@ -47,4 +48,13 @@ fn both_take_more_for_better(rt: HostRuntime) {
     assert!(rt; Mean::of(16).good(i64::MAX, i64::MIN) && Floor.good(i64::MAX, i64::MIN));
     assert!(rt; Mean::of(16).good(3, 3) && Floor.good(3, 3));
     assert!(rt; !Mean::of(16).good(2, 3) && !Floor.good(2, 3));
+}
+
+#[test]
+fn chosen_criteria_are_the_two(rt: HostRuntime) {
+    let both = [By::Mean(Mean::of(4)), By::Floor(Floor)];
+    let entered = [31, 7];
+    for (by, sum) in both.iter().zip(entered) {
+        assert_eq!(rt; by.enter(1, 4, 3, 10, -2, 7), sum);
+    }
 }

@@ -1,0 +1,4 @@
+pub mod Performed
+pub mod Progress
+pub mod Determined
+pub mod Unchanged

@@ -1,0 +1,23 @@
+-- What holds of every list of calls.
+use Rattle.std.specs.Prelude.{◌≡◌, List, ◌++◌, Err}
+use Rattle.model.specs.Model.{Model, Lawful}
+use Rattle.criteria.specs.Criteria.{Ops}
+use Rattle.sheets.specs.declared.note.Note.{Note}
+use Rattle.service.specs.declared.call.Call.{Call}
+use Rattle.service.specs.declared.call.Request.{Request}
+use Rattle.service.specs.declared.call.CallRefusal.{CallRefusal}
+use Rattle.service.specs.Calls.{standing, standing_after}
+use Rattle.service.specs.Serving.{Answers, Served}
+
+module _ {C V A : Type 0} (ops : C → Ops V A) where
+  -- on a lawful book, the notes and the requests before determine the requests after, with all that their tables hold
+  abbrev pub ServingIsDetermined : Type 0
+  ServingIsDetermined = (m : Model) → Lawful m → (ns : List Note) (xs ys zs : List (Request C V)) → Served ops m ns xs ys → Served ops m ns xs zs → ys ≡ zs
+
+  -- a list that is served in two parts is served
+  abbrev pub PartsAreTheWhole : Type 0
+  PartsAreTheWhole = (m : Model) (ns : List Note) (xs ys xs' ys' : List (Request C V)) → Served ops m ns xs ys → Served ops m (standing_after m ns xs) xs' ys' → Served ops m ns (xs ++ xs') (ys ++ ys')
+
+  -- a call that is declined is given back as it was brought, and leaves the notes
+  abbrev pub DeclinedIsUnchanged : Type 0
+  DeclinedIsUnchanged = (m : Model) (ns : List Note) (c back : Call C V) (f : CallRefusal) → Answers ops m ns c (Err f) back → (back ≡ c) × (standing m ns c ≡ ns)
