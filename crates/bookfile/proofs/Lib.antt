@@ -7,3 +7,5 @@ pub mod Exactness
 pub mod Unfolding
 pub mod Cutting
 pub mod Advancing
+pub mod Filling
+pub mod Passes

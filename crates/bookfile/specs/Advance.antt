@@ -80,10 +80,10 @@ state_with (Outcome e) b = middle (plus_record b e)
 state_with (Worth s z) b = middle (plus_worth b z)
 state_with End b = finished b
 
--- an entry was the last to be entered: its record stands, or its worth, or all worths stand
+-- an entry was the last to be entered: its record stands, or its worth stands last, or all worths stand
 abbrev pub Stands : Entry → Progress → Type 0
 Stands (Outcome e) p = 1 ≤ p.count
-Stands (Worth s z) p = s < p.worths
+Stands (Worth s z) p = s + 1 ≡ p.worths
 Stands End p = p.sizes.conditions ≤ p.worths
 
 -- an entry where these records and worths stand: it is entered, with this progress after it, or not
@@ -97,25 +97,24 @@ pub record EntryEntered (p : Progress) (y : Entry) (p' : Progress) : Type 0 wher
 abbrev pub EntryStopped : Progress → Entry → FileFault → Type 0
 EntryStopped p y f = (es : List Record) (ws : List ℤ) → Tells p es ws → enter_line p.room.records p.room.worths (middle (so_far p.sizes es ws)) (line_of p) (entry_values y) ≡ faulty (reported_file f)
 
--- reading some bytes comes to this progress, and to bytes that are left from line k on: more lines, or those after the E line
-pub record Comes (state : WrittenBook → State) (room : Room) (bs : Bytes) (p : Progress) (k : ℕ) (left : Bytes) : Type 0 where
+-- reading some bytes comes to this progress, where these records and worths stand, and to bytes that are left from line k on:
+-- more lines, or those after the E line
+pub record Comes (state : WrittenBook → State) (room : Room) (bs : Bytes) (p : Progress) (es : List Record) (ws : List ℤ) (k : ℕ) (left : Bytes) : Type 0 where
   pub room_is : p.room ≡ room
-  pub records : List Record
-  pub worths : List ℤ
-  pub tells : Tells p records worths
-  pub same : reading room.records room.worths bs ≡ read_on room.records room.worths (state (so_far p.sizes records worths)) k left
+  pub tells : Tells p es ws
+  pub same : reading room.records room.worths bs ≡ read_on room.records room.worths (state (so_far p.sizes es ws)) k left
 
-abbrev pub ComeTo : Room → Bytes → Progress → Bytes → Type 0
-ComeTo room bs p left = Comes middle room bs p (line_of p) left
+abbrev pub ComeTo : Room → Bytes → Progress → List Record → List ℤ → Bytes → Type 0
+ComeTo room bs p es ws left = Comes middle room bs p es ws (line_of p) left
 
-abbrev pub ComeToEnd : Room → Bytes → Progress → Bytes → Type 0
-ComeToEnd room bs p left = Comes finished room bs p (line_of p + 1) left
+abbrev pub ComeToEnd : Room → Bytes → Progress → List Record → List ℤ → Bytes → Type 0
+ComeToEnd room bs p es ws left = Comes finished room bs p es ws (line_of p + 1) left
 
--- one line further, which said this
-abbrev pub CameTo : Room → Bytes → Entry → Progress → Bytes → Type 0
-CameTo room bs (Outcome e) p left = ComeTo room bs p left
-CameTo room bs (Worth s z) p left = ComeTo room bs p left
-CameTo room bs End p left = ComeToEnd room bs p left
+-- one line further, which said this, from where these records and worths stood
+abbrev pub CameTo : Room → Bytes → Entry → Progress → List Record → List ℤ → Bytes → Type 0
+CameTo room bs (Outcome e) p es ws left = ComeTo room bs p (es ++ (e ∷ [])) ws left
+CameTo room bs (Worth s z) p es ws left = ComeTo room bs p es (ws ++ (z ∷ [])) left
+CameTo room bs End p es ws left = ComeToEnd room bs p es ws left
 
 -- reading some bytes finds this fault
 abbrev pub Declined : Room → Bytes → FileFault → Type 0

@@ -32,13 +32,19 @@ abbrev pub WriteAnswers : {E : Type 0} (short : E) → WrittenBook → Result �
 WriteAnswers short b (Ok n) u u' = (n ≡ length (render b)) × (n ≤ length u) × (take n u' ≡ render b) × KeptPast n u u'
 WriteAnswers short b (Err f) u u' = (f ≡ short) × (length u < length (render b)) × (u' ≡ u)
 
--- what a file holds, before anything is written: the sizes of the book that is read and how many records it lists
-pub record Holds (l : WrittenBook) (b : ReadBook) : Type 0 where
+-- some bytes are read to a book, and this tells its sizes and how many records it lists
+pub record Holds (m w : ℕ) (bs : Bytes) (l : WrittenBook) (b : ReadBook) : Type 0 where
+  pub same : reading m w bs ≡ good l
   pub conditions : b.sizes.conditions ≡ l.conditions
   pub remedies : b.sizes.remedies ≡ l.remedies
   pub parts : b.sizes.parts ≡ l.parts
   pub count : b.count ≡ length l.records
 
+-- the first pass, before anything is written, and the second, as computed
 abbrev pub CheckAnswers : (m w : ℕ) → Bytes → Result ReadBook FileFault → Type 0
-CheckAnswers m w bs (Ok b) = (l : WrittenBook) × (reading m w bs ≡ good l) × Holds l b
+CheckAnswers m w bs (Ok b) = (l : WrittenBook) × Holds m w bs l b
 CheckAnswers m w bs (Err f) = reading m w bs ≡ faulty (reported_file f)
+
+abbrev pub FillAnswers : Bytes → Result ReadBook FileFault → (es es' : List Record) (zs zs' : List ℤ) → Type 0
+FillAnswers bs (Ok r) es es' zs zs' = (b : WrittenBook) × (reading (length es) (length zs) bs ≡ good b) × Filled b r es es' zs zs'
+FillAnswers bs (Err f) es es' zs zs' = reading (length es) (length zs) bs ≡ faulty (reported_file f)

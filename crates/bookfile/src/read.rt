@@ -1,7 +1,7 @@
 // Reading a book file into lent tables.
-ghost use Rattle.std.specs.Prelude.{◌≡◌, length, IfOk, IfErr};
+ghost use Rattle.std.specs.Prelude.{length, IfOk};
 ghost use Rattle.bookfile.specs.Entries.{Readable};
-ghost use Rattle.bookfile.specs.FileCalls.{CheckAnswers};
+ghost use Rattle.bookfile.specs.FileCalls.{CheckAnswers, FillAnswers, ReadAnswers};
 
 use super::entries::Entry;
 use super::faults::FileFault;
@@ -32,7 +32,7 @@ fn check(bytes: &[u8], room: Room) -> Result<ReadBook, FileFault>
 // Writes the records and worths of a file that was checked. A walk with a closure, for this and the check, would
 // lose the lengths of the tables.
 fn fill(bytes: &[u8], records: &mut [Record], worths: &mut [i64]) -> Result<ReadBook, FileFault>
-    ensures read { CheckAnswers (length records.old) (length worths.old) bytes.now result }
+    ensures filled { FillAnswers bytes.now result records.old records.new worths.old worths.new }
     ensures readable { IfOk result (λ b. Readable b (length records.old) (length worths.old)) }
 {
     let mut reader = Reader::begun(bytes, Room::of(records, worths))?;
@@ -48,8 +48,7 @@ fn fill(bytes: &[u8], records: &mut [Record], worths: &mut [i64]) -> Result<Read
 // Reads a book file: fills the records and the worths, and answers what it holds. A file that is
 // declined changes neither.
 pub fn read(bytes: &[u8], records: &mut [Record], worths: &mut [i64]) -> Result<ReadBook, FileFault>
-    ensures answer { CheckAnswers (length records.old) (length worths.old) bytes.now result }
-    ensures kept { IfErr result (λ _. (records.new ≡ records.old) × (worths.new ≡ worths.old)) }
+    ensures answer { ReadAnswers bytes.now result records.old records.new worths.old worths.new }
     ensures readable { IfOk result (λ b. Readable b (length records.old) (length worths.old)) }
 {
     check(bytes, Room::of(records, worths))?;

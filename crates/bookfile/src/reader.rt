@@ -1,10 +1,11 @@
 // Reading a book file line by line.
-ghost use Rattle.std.specs.Prelude.{◌≡◌, ◌<◌, ◌≤◌, length, IfOk, MatchResult};
+ghost use Rattle.std.specs.Prelude.{◌≡◌, ◌<◌, ◌≤◌, List, [], length, ℤ, IfOk, MatchResult};
+ghost use Rattle.books.specs.declared.record.Record.{Record};
 ghost use Rattle.fields.specs.Numerals.{Bytes};
 ghost use Rattle.bookfile.specs.declared.progress.Room.{Room};
-ghost use Rattle.bookfile.specs.Advance.{ComeTo, ComeToEnd, CameTo, Declined, Stands};
+ghost use Rattle.bookfile.specs.Advance.{so_far, ComeTo, ComeToEnd, CameTo, Declined, Stands};
 ghost use Rattle.bookfile.specs.Entries.{Readable};
-ghost use Rattle.bookfile.specs.FileCalls.{CheckAnswers};
+ghost use Rattle.bookfile.specs.FileCalls.{Holds};
 
 use super::entries::{Entry, entry_of, sizes_of};
 use super::faults::FileFault;
@@ -22,7 +23,7 @@ pub(crate) struct Reader<'a> {
 impl<'a> Reader<'a> {
     // After the first line.
     pub(crate) fn begun(bytes: &'a [u8], room: Room) -> Result<Reader<'a>, FileFault>
-        ensures { MatchResult result (λ r. ComeTo room bytes.now r.progress r.rest.now) (Declined room bytes.now) }
+        ensures { MatchResult result (λ r. ComeTo room bytes.now r.progress [] [] r.rest.now) (Declined room bytes.now) }
     {
         let (first, rest) = cut_line(1, bytes)?;
         let progress = Progress::begun(sizes_of(first)?, room);
@@ -38,7 +39,7 @@ impl<'a> Reader<'a> {
 
     // What the next line says.
     pub(crate) fn next(&mut self) -> Result<Entry, FileFault>
-        ensures read { (room : Room) (bs : Bytes) → ComeTo room bs self.old.progress self.old.rest.now → MatchResult result (λ y. CameTo room bs y self.new.progress self.new.rest.now) (Declined room bs) }
+        ensures read { (room : Room) (bs : Bytes) (es : List Record) (ws : List ℤ) → ComeTo room bs self.old.progress es ws self.old.rest.now → MatchResult result (λ y. CameTo room bs y self.new.progress es ws self.new.rest.now) (Declined room bs) }
         ensures stands { IfOk result (λ y. Stands y self.new.progress) }
         ensures room { IfOk result (λ _. self.new.progress.room ≡ self.old.progress.room) }
         ensures shorter { IfOk result (λ _. length self.new.rest.now < length self.old.rest.now) }
@@ -53,7 +54,7 @@ impl<'a> Reader<'a> {
     // What the file holds, after its last line.
     pub(crate) fn ended(&self) -> Result<ReadBook, FileFault>
         requires { self.now.progress.sizes.conditions ≤ self.now.progress.worths }
-        ensures answer { (room : Room) (bs : Bytes) → ComeToEnd room bs self.now.progress self.now.rest.now → CheckAnswers room.records room.worths bs result }
+        ensures answer { (room : Room) (bs : Bytes) (es : List Record) (ws : List ℤ) → ComeToEnd room bs self.now.progress es ws self.now.rest.now → MatchResult result (Holds room.records room.worths bs (so_far self.now.progress.sizes es ws)) (Declined room bs) }
         ensures readable { IfOk result (λ b. Readable b self.now.progress.room.records self.now.progress.room.worths) }
     {
         if self.rest.is_empty() {

@@ -7,5 +7,5 @@ invariant_of-result c =
     let book = c.in_ok-book.ensures.1 in
     let few = subst (λ (x : ℕ). x ≤ 32) (sym book.conditions) sizes.few_conditions in record {
       some_condition = sizes.some_condition;
-      few_entries = subst (λ (n : ℕ). n ≤ 1536) (sym c.in_ok-entries.ensures.0) (mul-le-mul c.in_ok-asked.ensures.1 few);
+      few_entries = subst (λ (n : ℕ). n ≤ 1536) (sym c.in_ok-entries.ensures.0) (mul-le-mul c.in_ok-asked.ensures.few.1 few);
     }
