@@ -23,7 +23,7 @@ pub struct Asked {
 }
 
 // By a letter, and no TryFrom: the fault names the field's place.
-fn criterion_of(field: Placed<'_>) -> Result<By, FieldFault>
+pub fn criterion_of(field: Placed<'_>) -> Result<By, FieldFault>
     ensures { CriterionRead field.entry.line field.entry.place (bytes_of field.entry.field) result }
 {
     match letter(field)? {

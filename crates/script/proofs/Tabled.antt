@@ -12,11 +12,12 @@ use Rattle.fields.specs.Views.{bytes_of, CutField, LeftAfter}
 use Rattle.bookfile.specs.Entered.{Left}
 use Rattle.bookfile.proofs.Cutting.{next_left, same_field}
 use Rattle.script.specs.declared.word.Word.TheVariants.{Judge}
-use Rattle.script.specs.declared.command.By.{By}
-use Rattle.script.specs.declared.command.By.TheVariants.{Mean, Floor}
+use Rattle.quoting.specs.declared.question.By.{By}
+use Rattle.quoting.specs.declared.question.By.TheVariants.{Mean, Floor}
 use Rattle.script.specs.declared.command.Unread.{Unread}
 use Rattle.script.specs.declared.command.Unread.TheVariants.{Faulty, NoMemory}
-use Rattle.script.specs.Orders.{Order, number, letter, remedy, letter_of, by_letter, order_from}
+use Rattle.script.specs.Orders.{Order, number, remedy, by_letter, order_from}
+use Rattle.quoting.specs.Asking.{letter_of, criterion_letters}
 use Rattle.script.specs.Orders.Order.{judges}
 use Rattle.script.specs.Commands.{TableAnswers, CommandAnswers}
 use Rattle.script.specs.Forms.{check_rest}
@@ -82,7 +83,7 @@ judging_good b v (faulty e) = refl
 
 -- all fields after `judge`: the letter, the visits, and then the remedies
 pub judge_checked : {k at m o n' at' m' o' n'' at'' count b v : ℕ} {rest after after' : Bytes} {g g' : Field} →
-    CutField k at rest m o g → LeftAfter k at rest n' at' after → check_field m o letter (bytes_of g) ≡ good (pos b) →
+    CutField k at rest m o g → LeftAfter k at rest n' at' after → check_field m o criterion_letters (bytes_of g) ≡ good (pos b) →
     CutField n' at' after m' o' g' → LeftAfter n' at' after n'' at'' after' → check_field m' o' number (bytes_of g') ≡ good (pos v) →
     (fs : List Bytes) → Left rest fs → at ≡ 2 → length fs ≡ count + 2 →
     (gs : List Bytes) × Left after' gs × (length gs ≡ count) × (check_rest k Judge fs ≡ and_then (check_fields n'' at'' (replicate count remedy) gs) (λ zs. good (order_from Judge (pos b ∷ pos v ∷ zs))))
@@ -98,7 +99,7 @@ judge_checked {k} {at} {m} {o} {n'} {at'} {m'} {o'} {n''} {at''} {count} {b} {v}
     let many : length gs ≡ count = omega arith in
     let more : length (f ∷ f' ∷ gs) - 2 ≡ count = omega arith in
     let l' = next_left rest after f (f' ∷ gs) k at n' at' l a in
-    let read : check_field k 2 letter f ≡ good (pos b) = same_field c k 2 letter f (f' ∷ gs) refl p l ∙ e in
+    let read : check_field k 2 criterion_letters f ≡ good (pos b) = same_field c k 2 criterion_letters f (f' ∷ gs) refl p l ∙ e in
     let read' : check_field k 3 number f' ≡ good (pos v) = same_field c' k 3 number f' gs line second l' ∙ e' in (
       gs,
       next_left after after' f' gs n' at' n'' at'' l' a',

@@ -1,12 +1,13 @@
 -- What a line of a script says, and its form: what must follow each word.
 use Rattle.std.specs.Prelude.{ℕ, ◌-◌, cond, List, [], ◌∷◌, map, replicate, drop, ℤ, pos, ◌==◌, slice_index_or, unsigned_abs}
 use Rattle.fields.specs.Kinds.{Kind}
-use Rattle.fields.specs.Kinds.Kind.{one_of, from_to, either_way}
+use Rattle.fields.specs.Kinds.Kind.{from_to, either_way}
 use Rattle.fields.specs.Checking.{size_at}
-use Rattle.script.specs.declared.command.By.{By}
-use Rattle.script.specs.declared.command.By.TheVariants.{Mean, Floor}
-use Rattle.script.specs.declared.command.RoundCall.{RoundCall}
-use Rattle.script.specs.declared.command.RoundCall.TheVariants.{Treat as to_treat, Report as to_report, Settle as to_settle}
+use Rattle.quoting.specs.declared.question.By.{By}
+use Rattle.quoting.specs.declared.question.By.TheVariants.{Mean, Floor}
+use Rattle.quoting.specs.Asking.{criterion_letters}
+use Rattle.following.specs.declared.call.RoundCall.{RoundCall}
+use Rattle.following.specs.declared.call.RoundCall.TheVariants.{Treat as to_treat, Report as to_report, Settle as to_settle}
 use Rattle.script.specs.declared.word.Word.{Word}
 use Rattle.script.specs.declared.word.Word.TheVariants.{Bar, Surcharge, Prolong, Lift, Plan, Judge, Begin, Treat, Report, Settle}
 
@@ -21,15 +22,12 @@ pub data Order : Type 0 where
   begins : (visits condition : ℕ) → Order
   turns : RoundCall → Order
 
--- what is written: a number, an amount, the letter of a criterion (M or F), a remedy of a table
+-- what is written, besides the letter of a criterion: a number, an amount, a remedy of a table
 abbrev pub number : Kind
 number = from_to 0 4294967295
 
 abbrev pub amount : Kind
 amount = either_way 4294967295
-
-abbrev pub letter : Kind
-letter = one_of (77 ∷ 70 ∷ [])
 
 abbrev pub remedy : Kind
 remedy = from_to 0 255
@@ -40,18 +38,14 @@ form Bar n = number ∷ number ∷ number ∷ number ∷ []
 form Surcharge n = number ∷ amount ∷ number ∷ number ∷ []
 form Prolong n = number ∷ number ∷ []
 form Lift n = number ∷ []
-form Plan n = letter ∷ number ∷ []
-form Judge n = letter ∷ number ∷ replicate (n - 2) remedy
+form Plan n = criterion_letters ∷ number ∷ []
+form Judge n = criterion_letters ∷ number ∷ replicate (n - 2) remedy
 form Begin n = number ∷ number ∷ []
 form Treat n = []
 form Report n = number ∷ []
 form Settle n = []
 
--- the letter of a criterion, and the criterion of a letter
-abbrev pub letter_of : By → ℕ
-letter_of Mean = 77
-letter_of Floor = 70
-
+-- the criterion of a letter: M (77) or F (70)
 abbrev pub by_letter : ℕ → By
 by_letter l = cond (l == 77) Mean Floor
 

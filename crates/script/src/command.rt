@@ -2,22 +2,9 @@
 ghost use Rattle.std.specs.Prelude.{◌≡◌};
 
 use fields::faults::{FieldFault, LineFault};
+use following::call::RoundCall;
+use quoting::question::By;
 use std::alloc::{AllocError, AllocFailed};
-
-// The criterion that a letter names.
-#[derive(Clone, Copy)]
-pub enum By {
-    Mean,
-    Floor,
-}
-
-// One call of a round.
-#[derive(Clone, Copy)]
-pub enum RoundCall {
-    Treat,
-    Report { next: usize },
-    Settle,
-}
 
 // A call on the sheet, or one of the round that was begun before. The tables of a plan are not written in a script.
 #[derive(Drop)]

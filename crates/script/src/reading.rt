@@ -1,20 +1,21 @@
 // From the fields of a line to what it says.
-ghost use Rattle.std.specs.Prelude.{◌≡◌, ◌+◌, ◌<◌, ◌≤◌, ◌^◌, length, pos, MatchResult};
+ghost use Rattle.std.specs.Prelude.{◌≡◌, ◌+◌, ◌<◌, ◌^◌, length};
 ghost use Rattle.fields.specs.Lines.{split};
-ghost use Rattle.fields.specs.Checking.Checked.{good, faulty};
 ghost use Rattle.fields.specs.Checking.{check_field};
-ghost use Rattle.fields.specs.Views.{bytes_of, reported_field, Answers};
+ghost use Rattle.fields.specs.Views.{bytes_of, Answers};
 ghost use Rattle.script.specs.declared.word.Word.TheVariants.{Bar, Surcharge, Prolong, Lift, Plan, Judge, Begin, Report};
-ghost use Rattle.script.specs.Orders.{number, letter, letter_of};
+ghost use Rattle.script.specs.Orders.{number};
 ghost use Rattle.script.specs.Commands.{RestRead, TableRead, JudgeRead, CommandAnswers};
 ghost use Rattle.script.specs.Forms.{check_order};
 
-use super::command::{By, Command, RoundCall, Unread};
+use super::command::{Command, Unread};
 use super::word::Word;
 use fields::faults::{FieldFault, LineFault};
 use fields::lines::Line;
 use fields::numbers::{natural, signed_number};
-use fields::parts::{Fields, Placed, letter};
+use fields::parts::{Fields, Placed};
+use following::call::RoundCall;
+use quoting::question::criterion_of;
 use std::alloc::Global;
 
 // A number as scripts have them.
@@ -78,17 +79,6 @@ fn lift_in(fields: Fields<'_>) -> Result<Command, FieldFault>
     })
 }
 
-// The criterion that a letter names.
-fn criterion_in(field: Placed<'_>) -> Result<By, FieldFault>
-    ensures { MatchResult result (λ b. check_field field.entry.line field.entry.place letter (bytes_of field.entry.field) ≡ good (pos (letter_of b))) (λ e. check_field field.entry.line field.entry.place letter (bytes_of field.entry.field) ≡ faulty (reported_field e)) }
-{
-    match letter(field)? {
-        'M' => Ok(By::Mean),
-        'F' => Ok(By::Floor),
-        _ => Err(field.wrong_letter()),
-    }
-}
-
 // After `plan`: the letter of a criterion, visits.
 fn plan_in(fields: Fields<'_>) -> Result<Command, FieldFault>
     ensures { RestRead Plan fields.entry.line fields.entry.place fields.entry.rest.now result }
@@ -96,7 +86,7 @@ fn plan_in(fields: Fields<'_>) -> Result<Command, FieldFault>
     let (by, fields) = fields.cut();
     let (visits, _) = fields.cut();
     Ok(Command::Plan {
-        by: criterion_in(by)?,
+        by: criterion_of(by)?,
         visits: number_in(visits)?,
     })
 }
@@ -143,7 +133,7 @@ fn judge_in(heap: Global, fields: Fields<'_>, count: usize) -> Result<Command, U
     ensures { JudgeRead count fields.entry.line fields.entry.place fields.entry.rest.now result }
 {
     let (by, fields) = fields.cut();
-    let by = criterion_in(by)?;
+    let by = criterion_of(by)?;
     let (visits, fields) = fields.cut();
     let visits = number_in(visits)?;
     let remedies = remedies_in(heap, fields, count)?;
@@ -156,7 +146,7 @@ fn judge_in(heap: Global, fields: Fields<'_>, count: usize) -> Result<Command, U
 
 // How many fields follow the first.
 #[tactic(auto, using(fields::proofs::CodeLines::parts_after))]
-fn following(line: Line<'_>) -> usize
+fn fields_following(line: Line<'_>) -> usize
     ensures { result ≡ length (split 9 line.entry.text.now).1 }
 {
     line.text.iter().filter(|b| **b == b'\t').count()
@@ -168,7 +158,7 @@ pub(crate) fn command_of(heap: Global, line: Line<'_>) -> Result<Command, Unread
 {
     let (first, rest) = Fields::of(line).cut();
     let word = Word::of(first)?;
-    let count = following(line);
+    let count = fields_following(line);
     if count != word.fields(count) {
         return Err(LineFault::Count { line: line.number }.into());
     }

@@ -17,12 +17,12 @@ judge_in-requires c =
 pub returns-in_err-judge_in-in-Judge : goal.returns-in_err-judge_in-in-Judge
 returns-in_err-judge_in-in-Judge c =
     let p = err_from_is_err_and c.from_residual-in_err-judge_in-in-Judge.result c.from_residual-in_err-judge_in-in-Judge.ensures.1 in
-    let h = worded c.of.ensures.0 c.of.ensures.1 c.of.ensures.2 c.cut.ensures.field c.cut.ensures.after c.in_ok-word.ensures c.following-count.ensures c.if-count-fields.false c.fields.ensures in
-    rw (p.1, p.2) (of_judge (Err c.in_err-judge_in-in-Judge.field-0.0) c.in-Judge.is h c.following-count.ensures c.in_err-judge_in-in-Judge.ensures)
+    let h = worded c.of.ensures.0 c.of.ensures.1 c.of.ensures.2 c.cut.ensures.field c.cut.ensures.after c.in_ok-word.ensures c.fields_following-count.ensures c.if-count-fields.false c.fields.ensures in
+    rw (p.1, p.2) (of_judge (Err c.in_err-judge_in-in-Judge.field-0.0) c.in-Judge.is h c.fields_following-count.ensures c.in_err-judge_in-in-Judge.ensures)
 
 pub returns : goal.returns
 returns c =
-    let h = worded c.of.ensures.0 c.of.ensures.1 c.of.ensures.2 c.cut.ensures.field c.cut.ensures.after c.in_ok-word.ensures c.following-count.ensures c.if-count-fields.false c.fields.ensures in
+    let h = worded c.of.ensures.0 c.of.ensures.1 c.of.ensures.2 c.cut.ensures.field c.cut.ensures.after c.in_ok-word.ensures c.fields_following-count.ensures c.if-count-fields.false c.fields.ensures in
     let k = c.args.line.number in
     let t = c.args.line.text.now in
     elim c.match-word.branch [
@@ -31,7 +31,7 @@ returns c =
       | in-Prolong+in_ok-prolong_in-in-Prolong w ↦ of_command Prolong w.in_ok-prolong_in-in-Prolong.field-0 c.match-word.result w.in-Prolong.is h w.in_ok-prolong_in-in-Prolong.ensures w.result-is
       | in-Lift+in_ok-lift_in-in-Lift w ↦ of_command Lift w.in_ok-lift_in-in-Lift.field-0 c.match-word.result w.in-Lift.is h w.in_ok-lift_in-in-Lift.ensures w.result-is
       | in-Plan+in_ok-plan_in-in-Plan w ↦ of_command Plan w.in_ok-plan_in-in-Plan.field-0 c.match-word.result w.in-Plan.is h w.in_ok-plan_in-in-Plan.ensures w.result-is
-      | in-Judge+in_ok-judge_in-in-Judge w ↦ subst (λ c. check_order k t ≡ good (order_of c)) (sym w.result-is) (of_judge (Ok w.in_ok-judge_in-in-Judge.field-0) w.in-Judge.is h c.following-count.ensures w.in_ok-judge_in-in-Judge.ensures)
+      | in-Judge+in_ok-judge_in-in-Judge w ↦ subst (λ c. check_order k t ≡ good (order_of c)) (sym w.result-is) (of_judge (Ok w.in_ok-judge_in-in-Judge.field-0) w.in-Judge.is h c.fields_following-count.ensures w.in_ok-judge_in-in-Judge.ensures)
       | in-Begin+in_ok-begin_in-in-Begin w ↦ of_command Begin w.in_ok-begin_in-in-Begin.field-0 c.match-word.result w.in-Begin.is h w.in_ok-begin_in-in-Begin.ensures w.result-is
       | in-Treat w ↦ of_word Treat _ c.match-word.result w.in-Treat.is h (λ n. refl) refl w.result-is
       | in-Report+in_ok-report_in-in-Report w ↦ of_command Report w.in_ok-report_in-in-Report.field-0 c.match-word.result w.in-Report.is h w.in_ok-report_in-in-Report.ensures w.result-is

@@ -1,6 +1,6 @@
 use Rattle.std.proofs.Common.{pos}
 use Rattle.std.proofs.lemmas.Result.{err_from_is_err_and}
-use Rattle.script.specs.Orders.{letter_of}
+use Rattle.quoting.specs.Asking.{letter_of}
 use Rattle.script.proofs.Tabled.{judge_checked, judge_stopped, judge_good}
 use Rattle.script.proofs.reading.judge_in.Goals as goal
 
