@@ -1,0 +1,5 @@
+// The desk: what a script asks of a sheet over a book, served and answered line by line.
+#![tactic(auto)]
+
+mod lines;
+mod words;
