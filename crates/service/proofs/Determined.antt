@@ -8,12 +8,13 @@ use Rattle.sheets.specs.declared.note.Note.{Note}
 use Rattle.sheets.specs.Notes.{noted}
 use Rattle.sheets.specs.Keeping.{noted_lawful}
 use Rattle.planning.proofs.Determined.{plans_are_determined, judgements_are_determined}
+use Rattle.following.proofs.Answered.{rounds_are_determined}
 use Rattle.service.specs.declared.call.Call.{Call}
-use Rattle.service.specs.declared.call.Call.TheVariants.{Bar, Surcharge, Prolong, Lift, Judge, Plan}
+use Rattle.service.specs.declared.call.Call.TheVariants.{Bar, Surcharge, Prolong, Lift, Judge, Plan, Round}
 use Rattle.service.specs.declared.call.Request.{Request}
 use Rattle.service.specs.declared.call.CallRefusal.{CallRefusal}
 use Rattle.service.specs.Calls.{standing}
-use Rattle.service.specs.Serving.{of_plans, Answers, Answered, Served}
+use Rattle.service.specs.Serving.{of_plans, of_rounds, Answers, Answered, Served}
 use Rattle.service.specs.Laws.{ServingIsDetermined}
 
 module _ {C V A : Type 0} (ops : C → Ops V A) (m : Model) (lawful : Lawful m) where
@@ -31,6 +32,12 @@ module _ {C V A : Type 0} (ops : C → Ops V A) (m : Model) (lawful : Lawful m) 
       let values = p.values_written ∙ ap (with_items vs) same.1 ∙ sym q.values_written in
       let remedies = p.remedies_written ∙ ap (with_items rs) same.2 ∙ sym q.remedies_written in
       (p.answered ∙ ap of_plans same.0 ∙ sym q.answered, p.given_back ∙ (λ k. Plan c H (values k) (remedies k)) ∙ sym q.given_back)
+  one_answer ns (Round H s vs rs ts) y z a b p q =
+      let same = rounds_are_determined (noted m ns) H s vs.items p.values.items q.values.items rs.items p.remedies.items q.remedies.items ts.items p.turns.items q.turns.items p.answer q.answer (noted_lawful m ns lawful) p.led q.led in
+      let values = p.values_written ∙ ap (with_items vs) same.1 ∙ sym q.values_written in
+      let remedies = p.remedies_written ∙ ap (with_items rs) same.2 ∙ sym q.remedies_written in
+      let turns = p.turns_written ∙ ap (with_items ts) same.3 ∙ sym q.turns_written in
+      (p.answered ∙ ap of_rounds same.0 ∙ sym q.answered, p.given_back ∙ (λ k. Round H s (values k) (remedies k) (turns k)) ∙ sym q.given_back)
 
   one_request : (ns : List Note) (x y z : Request C V) → Answered ops m ns x y → Answered ops m ns x z → y ≡ z
   one_request ns x y z p q =

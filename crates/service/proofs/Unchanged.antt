@@ -17,12 +17,17 @@ use Rattle.sheets.specs.Calls.{Answered, misspanned, too_dear, entering, to_bar,
 use Rattle.checks.specs.declared.refusal.PlanRefusal.{PlanRefusal}
 use Rattle.planning.specs.Plans.{PlanAnswers}
 use Rattle.planning.specs.Judgements.{JudgeAnswers}
+use Rattle.following.specs.declared.call.Turn.{Turn}
+use Rattle.following.specs.declared.follow.Unfollowed.{Unfollowed}
+use Rattle.following.specs.declared.follow.Unfollowed.TheVariants as unfollowed
+use Rattle.following.specs.Following.{RoundAnswers}
 use Rattle.service.specs.declared.call.Call.{Call}
-use Rattle.service.specs.declared.call.Call.TheVariants.{Bar, Surcharge, Prolong, Lift, Judge, Plan}
+use Rattle.service.specs.declared.call.Call.TheVariants.{Bar, Surcharge, Prolong, Lift, Judge, Plan, Round}
 use Rattle.service.specs.declared.call.CallRefusal.{CallRefusal}
+use Rattle.service.specs.declared.call.CallRefusal.TheVariants as refusal
 use Rattle.service.specs.Calls.{standing}
-use Rattle.service.specs.Serving.{of_notes, of_plans, Rewritten, Answers}
-use Rattle.service.specs.Laws.{DeclinedIsUnchanged}
+use Rattle.service.specs.Serving.{of_notes, of_plans, of_rounds, Rewritten, Answers}
+use Rattle.service.specs.Laws.{BeforeAnyTable, DeclinedIsUnchanged}
 
 -- a table whose entries are written over by themselves
 with_its_own : {X : Type 0} (v : Vec X Global) → with_items v v.items ≡ v
@@ -82,18 +87,31 @@ module _ {C V A : Type 0} (ops : C → Ops V A) (m : Model) (ns : List Note) whe
   plan_kept c H vs rs f (Ok n) vs' rs' e h h' j = never f n e
   plan_kept c H vs rs f (Err g) vs' rs' e h h' j = (same_table vs vs' h j.2, same_table rs rs' h' j.3)
 
-  unchanged : (c back : Call C V) (f : CallRefusal) → Answers ops m ns c (Err f) back → (back ≡ c) × (standing m ns c ≡ ns)
+  round_kept : (H s : ℕ) (vs : Vec ℤ Global) (rs : Vec ℕ Global) (ts : Vec Turn Global) (f : CallRefusal) (x : Result ℕ Unfollowed) (vs' : Vec ℤ Global) (rs' : Vec ℕ Global) (ts' : Vec Turn Global) → Err f ≡ of_rounds x → BeforeAnyTable f → Rewritten vs vs' → Rewritten rs rs' → Rewritten ts ts' → RoundAnswers (noted m ns) H s x vs.items vs'.items rs.items rs'.items ts.items ts'.items → (vs' ≡ vs) × (rs' ≡ rs) × (ts' ≡ ts)
+  round_kept H s vs rs ts f (Ok n) vs' rs' ts' e k hv hr ht j = never f n e
+  round_kept H s vs rs ts f (Err (unfollowed.Plan g)) vs' rs' ts' e k hv hr ht j = (same_table vs vs' hv j.0.2, same_table rs rs' hr j.0.3, same_table ts ts' ht j.1)
+  round_kept H s vs rs ts f (Err (unfollowed.Begin g)) vs' rs' ts' e k hv hr ht j =
+      let same : f ≡ refusal.Round (unfollowed.Begin g) = cc in
+      absurd (subst BeforeAnyTable same k)
+
+  unchanged : (c back : Call C V) (f : CallRefusal) → Answers ops m ns c (Err f) back → (standing m ns c ≡ ns) × (BeforeAnyTable f → back ≡ c)
   unfolding Leaves
-  unchanged (Bar s r k l) back f p = (p.1, bar_leaves m ns s r (record { first = k; last = l }) f p.0)
-  unchanged (Surcharge r a k l) back f p = (p.1, surcharge_leaves m ns r a (record { first = k; last = l }) f p.0)
-  unchanged (Prolong k l) back f p = (p.1, prolong_leaves ns k l f p.0)
-  unchanged (Lift k) back f p = (p.1, lift_leaves ns k f p.0)
+  unchanged (Bar s r k l) back f p = (bar_leaves m ns s r (record { first = k; last = l }) f p.0, λ b. p.1)
+  unchanged (Surcharge r a k l) back f p = (surcharge_leaves m ns r a (record { first = k; last = l }) f p.0, λ b. p.1)
+  unchanged (Prolong k l) back f p = (prolong_leaves ns k l f p.0, λ b. p.1)
+  unchanged (Lift k) back f p = (lift_leaves ns k f p.0, λ b. p.1)
   unchanged (Judge c H vs rs) back f p =
       let values = judgement_kept c H vs rs f p.answer p.values p.answered p.values_written p.judged in
-      (p.given_back ∙ ap (λ ws. Judge c H ws rs) values, refl)
+      (refl, λ b. p.given_back ∙ ap (λ ws. Judge c H ws rs) values)
   unchanged (Plan c H vs rs) back f p =
       let kept = plan_kept c H vs rs f p.answer p.values p.remedies p.answered p.values_written p.remedies_written p.planned in
-      (p.given_back ∙ (λ k. Plan c H (kept.0 k) (kept.1 k)), refl)
+      (refl, λ b. p.given_back ∙ (λ k. Plan c H (kept.0 k) (kept.1 k)))
+  unchanged (Round H s vs rs ts) back f p = (
+    refl,
+    λ b.
+        let kept = round_kept H s vs rs ts f p.answer p.values p.remedies p.turns p.answered b p.values_written p.remedies_written p.turns_written p.led in
+        p.given_back ∙ (λ k. Round H s (kept.0 k) (kept.1 k) (kept.2 k)),
+  )
 
 pub declined_is_unchanged : {C V A : Type 0} (ops : C → Ops V A) → DeclinedIsUnchanged ops
 declined_is_unchanged ops m ns c back f p = unchanged ops m ns c back f p

@@ -4,7 +4,7 @@ use Rattle.model.specs.Model.{Model, offers}
 use Rattle.sheets.specs.declared.note.Note.{Note}
 use Rattle.sheets.specs.Calls.{to_bar, to_surcharge, to_prolong, to_lift}
 use Rattle.service.specs.declared.call.Call.{Call}
-use Rattle.service.specs.declared.call.Call.TheVariants.{Bar, Surcharge, Prolong, Lift, Judge, Plan}
+use Rattle.service.specs.declared.call.Call.TheVariants.{Bar, Surcharge, Prolong, Lift, Judge, Plan, Round}
 use Rattle.service.specs.declared.call.Request.{Request}
 
 module _ {C V : Type 0} (m : Model) where
@@ -16,6 +16,7 @@ module _ {C V : Type 0} (m : Model) where
   standing ns (Lift p) = (to_lift ns p).1
   standing ns (Judge c H vs rs) = ns
   standing ns (Plan c H vs rs) = ns
+  standing ns (Round H s vs rs ts) = ns
 
   -- and after a list of them
   abbrev pub standing_after : List Note → List (Request C V) → List Note

@@ -4,6 +4,8 @@ ghost use Rattle.service.specs.declared.call.CallRefusal.TheVariants as refusal;
 ghost use Rattle.service.specs.Refusals.{call_number, call_places};
 
 use checks::refusal::PlanRefusal;
+use following::call::Turn;
+use following::follow::Unfollowed;
 use sheets::refusal::NoteRefusal;
 
 // A call on a sheet. C are criteria, V their values; the tables of a plan or a judgement belong to the call.
@@ -46,6 +48,14 @@ pub enum Call<C, V> {
         values: Vec<V>,
         remedies: Vec<u8>,
     },
+    // Plans by the floor, begins a round in the condition, and takes its turns by the plan's remedies.
+    Round {
+        visits: usize,
+        condition: usize,
+        values: Vec<i64>,
+        remedies: Vec<u8>,
+        turns: Vec<Turn>,
+    },
 }
 
 // A call, and the place for its answer: the number that the call answers by itself, or why it is declined.
@@ -60,6 +70,7 @@ pub struct Request<C, V> {
 pub enum CallRefusal {
     Note(NoteRefusal),
     Plan(PlanRefusal),
+    Round(Unfollowed),
 }
 
 impl<C, V> Request<C, V> {
@@ -88,6 +99,14 @@ impl From<PlanRefusal> for CallRefusal {
     }
 }
 
+impl From<Unfollowed> for CallRefusal {
+    ghost from_gives = { λ e r. r ≡ refusal.Round e };
+
+    fn from(e: Unfollowed) -> CallRefusal {
+        CallRefusal::Round(e)
+    }
+}
+
 impl CallRefusal {
     pub fn number(&self) -> u32
         ensures { result ≡ call_number self.now }
@@ -95,6 +114,7 @@ impl CallRefusal {
         match self {
             CallRefusal::Note(e) => e.number(),
             CallRefusal::Plan(e) => e.number(),
+            CallRefusal::Round(e) => e.number(),
         }
     }
 
@@ -105,6 +125,7 @@ impl CallRefusal {
         match self {
             CallRefusal::Note(e) => e.places(),
             CallRefusal::Plan(e) => e.places(),
+            CallRefusal::Round(e) => e.places(),
         }
     }
 }

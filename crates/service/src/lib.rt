@@ -4,3 +4,5 @@
 pub mod call;
 pub mod laws;
 pub mod serve;
+#[cfg(test)]
+mod tests;

@@ -5,6 +5,7 @@ ghost use Rattle.service.specs.Serving.{Answers, Served};
 
 use super::call::{Call, CallRefusal, Request};
 use criteria::criterion::Criterion;
+use following::follow::follow;
 use model::Book;
 use planning::judge::judge;
 use planning::plan::plan;
@@ -62,6 +63,21 @@ fn perform<B: Book, C: Criterion>(
             *visits,
             values.as_mut_slice(),
             remedies.as_mut_slice(),
+        )
+        .map_err(CallRefusal::from),
+        Call::Round {
+            ref mut visits,
+            ref mut condition,
+            ref mut values,
+            ref mut remedies,
+            ref mut turns,
+        } => follow(
+            &*sheet,
+            *visits,
+            *condition,
+            values.as_mut_slice(),
+            remedies.as_mut_slice(),
+            turns.as_mut_slice(),
         )
         .map_err(CallRefusal::from),
     }
