@@ -3,6 +3,7 @@ ghost use Rattle.std.specs.Prelude.{◌≡◌};
 ghost use Rattle.answers.specs.Words.{word};
 
 // The word that is printed beside a refusal's number.
+#[tactic(auto, unfolding(crate::specs::Words::word))]
 pub(crate) fn word_of(number: u32) -> &'static str
     ensures { result.now ≡ word number }
 {
