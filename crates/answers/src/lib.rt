@@ -2,4 +2,5 @@
 #![tactic(auto)]
 
 mod lines;
+mod requests;
 mod words;

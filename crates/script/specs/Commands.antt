@@ -9,7 +9,8 @@ use Rattle.fields.specs.declared.faults.FieldFault.{FieldFault}
 use Rattle.bookfile.specs.Entered.{Left}
 use Rattle.script.specs.declared.word.Word.{Word}
 use Rattle.script.specs.declared.command.Command.{Command}
-use Rattle.script.specs.declared.command.Command.TheVariants.{Bar, Surcharge, Prolong, Lift, Plan, Judge, Begin, Turn}
+use Rattle.script.specs.declared.command.Command.TheVariants.{Note, Plan, Judge, Begin, Turn}
+use Rattle.script.specs.declared.command.NoteCall.TheVariants.{Bar, Surcharge, Prolong, Lift}
 use Rattle.script.specs.declared.word.Word.TheVariants.{Judge as judging}
 use Rattle.script.specs.declared.command.Unread.{Unread}
 use Rattle.script.specs.declared.command.Unread.TheVariants.{Faulty, NoMemory}
@@ -18,10 +19,10 @@ use Rattle.script.specs.Orders.Order.{bars, surcharges, prolongs, lifts, plans, 
 use Rattle.script.specs.Forms.{check_rest}
 
 abbrev pub order_of : Command → Order
-order_of (Bar s r f l) = bars s r f l
-order_of (Surcharge r a f l) = surcharges r a f l
-order_of (Prolong p l) = prolongs p l
-order_of (Lift p) = lifts p
+order_of (Note (Bar s r f l)) = bars s r f l
+order_of (Note (Surcharge r a f l)) = surcharges r a f l
+order_of (Note (Prolong p l)) = prolongs p l
+order_of (Note (Lift p)) = lifts p
 order_of (Plan c h) = plans c h
 order_of (Judge c h rs) = judges c h rs.items
 order_of (Begin h s) = begins h s

@@ -6,9 +6,9 @@ use following::call::RoundCall;
 use quoting::question::By;
 use std::alloc::{AllocError, AllocFailed};
 
-// A call on the sheet, or one of the round that was begun before. The tables of a plan are not written in a script.
-#[derive(Drop)]
-pub enum Command {
+// A call that changes the notes of the sheet.
+#[derive(Clone, Copy)]
+pub enum NoteCall {
     Bar {
         condition: usize,
         remedy: usize,
@@ -28,6 +28,12 @@ pub enum Command {
     Lift {
         place: usize,
     },
+}
+
+// A call on the sheet, or one of the round that was begun before. The tables of a plan are not written in a script.
+#[derive(Drop)]
+pub enum Command {
+    Note(NoteCall),
     Plan {
         by: By,
         visits: usize,

@@ -8,7 +8,7 @@ ghost use Rattle.script.specs.Orders.{number};
 ghost use Rattle.script.specs.Commands.{RestRead, TableRead, JudgeRead, CommandAnswers};
 ghost use Rattle.script.specs.Forms.{check_order};
 
-use super::command::{Command, Unread};
+use super::command::{Command, NoteCall, Unread};
 use super::word::Word;
 use fields::faults::{FieldFault, LineFault};
 use fields::lines::Line;
@@ -33,12 +33,12 @@ fn bar_in(fields: Fields<'_>) -> Result<Command, FieldFault>
     let (remedy, fields) = fields.cut();
     let (first, fields) = fields.cut();
     let (last, _) = fields.cut();
-    Ok(Command::Bar {
+    Ok(Command::Note(NoteCall::Bar {
         condition: number_in(condition)?,
         remedy: number_in(remedy)?,
         first: number_in(first)?,
         last: number_in(last)?,
-    })
+    }))
 }
 
 // After `surcharge`: remedy, amount, first and last visit.
@@ -49,12 +49,12 @@ fn surcharge_in(fields: Fields<'_>) -> Result<Command, FieldFault>
     let (amount, fields) = fields.cut();
     let (first, fields) = fields.cut();
     let (last, _) = fields.cut();
-    Ok(Command::Surcharge {
+    Ok(Command::Note(NoteCall::Surcharge {
         remedy: number_in(remedy)?,
         amount: signed_number(amount, u32::MAX)?,
         first: number_in(first)?,
         last: number_in(last)?,
-    })
+    }))
 }
 
 // After `prolong`: place, last visit.
@@ -63,10 +63,10 @@ fn prolong_in(fields: Fields<'_>) -> Result<Command, FieldFault>
 {
     let (place, fields) = fields.cut();
     let (last, _) = fields.cut();
-    Ok(Command::Prolong {
+    Ok(Command::Note(NoteCall::Prolong {
         place: number_in(place)?,
         last: number_in(last)?,
-    })
+    }))
 }
 
 // After `lift`: place.
@@ -74,9 +74,9 @@ fn lift_in(fields: Fields<'_>) -> Result<Command, FieldFault>
     ensures { RestRead Lift fields.entry.line fields.entry.place fields.entry.rest.now result }
 {
     let (place, _) = fields.cut();
-    Ok(Command::Lift {
+    Ok(Command::Note(NoteCall::Lift {
         place: number_in(place)?,
-    })
+    }))
 }
 
 // After `plan`: the letter of a criterion, visits.
