@@ -1,12 +1,13 @@
 -- Lines as they are printed.
-use Rattle.std.proofs.Common.{◌≡◌, ℕ, ◌^◌, ◌<◌, List, [], ◌∷◌, ◌++◌, ℤ, pos, w64, SFits, ap, ◌∙◌, append_assoc}
+use Rattle.std.proofs.Common.{◌≡◌, ℕ, ◌+◌, ◌/◌, ◌%◌, ◌^◌, ◌<◌, List, [], ◌∷◌, ◌++◌, map, ℤ, pos, Bor, w64, SFits, sym, ap, ◌∙◌, append_assoc, append-nil}
 use Rattle.std.proofs.Math.Facts.{Fits-nat_abs}
 use Rattle.std.specs.Fmt.{decimal, signed_decimal}
 use Rattle.fields.specs.Numerals.{Bytes, numeral, signed}
 use Rattle.fields.specs.Lines.{line}
 use Rattle.fields.proofs.Printed.{numeral_printed, signed_printed}
 use Rattle.answers.specs.Words.{word}
-use Rattle.answers.specs.Printing.{refusal_line, answer_line, silent_line}
+use Rattle.quoting.specs.Printing.{plan_line}
+use Rattle.answers.specs.Printing.{refusal_line, answer_line, silent_line, entry_lines}
 
 two_parts : (t a b e : Bytes) → a ++ (t ++ (b ++ e)) ≡ (a ++ (t ++ b)) ++ e
 two_parts t a b e = simp append_assoc
@@ -33,3 +34,11 @@ silence_written k h = ap (λ bs. 83 ∷ 9 ∷ (bs ++ (10 ∷ []))) (numeral_prin
 pub refusal_written : (k n : ℕ) (w : Bytes) (p : ℕ × ℕ × ℕ) → w ≡ word n → k < 2 ^ 64 → n < 2 ^ 64 → p.0 < 2 ^ 64 → p.1 < 2 ^ 64 → p.2 < 2 ^ 64 →
     78 ∷ 9 ∷ (decimal k ++ (9 ∷ (decimal n ++ (9 ∷ (w ++ (9 ∷ (decimal p.0 ++ (9 ∷ (decimal p.1 ++ (9 ∷ (decimal p.2 ++ (10 ∷ [])))))))))))) ≡ refusal_line k n p
 refusal_written k n w p e h g h0 h1 h2 = line_of_six 78 _ _ _ _ _ _ _ _ _ _ _ _ (numeral_printed k h) (numeral_printed n g) e (numeral_printed p.0 h0) (numeral_printed p.1 h1) (numeral_printed p.2 h2)
+
+-- an entry of a table, as an iterator gives it
+abbrev pub entry_of : ℕ × (Bor ℤ × Bor ℕ) → ℕ × (ℤ × ℕ)
+entry_of p = (p.0, (p.1.0.now, p.1.1.now))
+
+pub one_entry : (c : ℕ) (ps : List (ℕ × (Bor ℤ × Bor ℕ))) (p : ℕ × (Bor ℤ × Bor ℕ)) → entry_lines c (map entry_of (ps ++ (p ∷ []))) ≡ entry_lines c (map entry_of ps) ++ plan_line (p.0 / c + 1) (p.0 % c) p.1.1.now p.1.0.now
+one_entry c [] p = append-nil (plan_line (p.0 / c + 1) (p.0 % c) p.1.1.now p.1.0.now)
+one_entry c (q ∷ qs) p = ap (λ bs. plan_line (q.0 / c + 1) (q.0 % c) q.1.1.now q.1.0.now ++ bs) (one_entry c qs p) ∙ sym (append_assoc (plan_line (q.0 / c + 1) (q.0 % c) q.1.1.now q.1.0.now) (entry_lines c (map entry_of qs)) (plan_line (p.0 / c + 1) (p.0 % c) p.1.1.now p.1.0.now))

@@ -1,3 +1,5 @@
 pub mod Words
 pub mod Printing
 pub mod Requests
+pub mod Texts
+pub mod Views

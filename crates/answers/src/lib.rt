@@ -3,4 +3,5 @@
 
 mod lines;
 mod requests;
+mod text;
 mod words;
