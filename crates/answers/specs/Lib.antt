@@ -3,3 +3,4 @@ pub mod Printing
 pub mod Requests
 pub mod Texts
 pub mod Views
+pub mod Desk
