@@ -2,7 +2,7 @@
 use Rattle.std.proofs.Common.{◌≡◌, ℕ, ◌+◌, ◌/◌, ◌%◌, ◌^◌, ◌<◌, List, [], ◌∷◌, ◌++◌, map, ℤ, pos, Bor, w64, SFits, sym, ap, ◌∙◌, append_assoc, append-nil}
 use Rattle.std.proofs.Math.Facts.{Fits-nat_abs}
 use Rattle.std.specs.Fmt.{decimal, signed_decimal}
-use Rattle.fields.specs.Numerals.{Bytes, numeral, signed}
+use Rattle.fields.specs.Numerals.{Bytes}
 use Rattle.fields.specs.Lines.{line}
 use Rattle.fields.proofs.Printed.{numeral_printed, signed_printed}
 use Rattle.answers.specs.Words.{word}

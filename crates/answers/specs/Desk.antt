@@ -32,7 +32,11 @@ abbrev pub Tells : Checked WrittenBook → List Said → Bytes → Type 0
 Tells (good b) script output = Serves (model_of b) script output
 Tells (faulty e) script output = output ≡ fault_line e.line_number e
 
+-- what is read of the book file, where m records and w worths have room, and what is printed then
+abbrev pub Told : (m w : ℕ) (file : Bytes) (script : List Said) (output : Bytes) → Type 0
+Told m w file script output = (book : Checked WrittenBook) × Reads m w file book × Tells book script output
+
 -- the whole of the desk: 65,536 bytes, 2,048 records and 32 worths have room
 pub record DeskAnswers (input output : Bytes) : Type 0 where
   pub too_long : 65536 < length input → output ≡ refusal_line 0 25 (0, 0, 0)
-  pub told : length input ≤ 65536 → (book : Checked WrittenBook) × Reads 2048 32 (book_part input) book × Tells book (script_of input) output
+  pub told : length input ≤ 65536 → Told 2048 32 (book_part input) (script_of input) output

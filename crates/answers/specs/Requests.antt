@@ -7,7 +7,6 @@ use Rattle.quoting.specs.declared.question.By.{By as Letter}
 use Rattle.quoting.specs.declared.question.By.TheVariants.{Mean as mean_letter, Floor as floor_letter}
 use Rattle.fields.specs.Checking.{Checked}
 use Rattle.fields.specs.Checking.Checked.{good, faulty}
-use Rattle.following.specs.declared.call.RoundCall.{RoundCall}
 use Rattle.following.specs.declared.call.Turn.{Turn}
 use Rattle.service.specs.declared.call.Call.{Call}
 use Rattle.service.specs.declared.call.Call.TheVariants.{Bar, Surcharge, Prolong, Lift, Judge, Plan, Round}

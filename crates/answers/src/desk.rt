@@ -1,8 +1,9 @@
 // The whole of the desk: a book file and a script in, the answers to the script out.
-ghost use Rattle.std.specs.Prelude.{◌≡◌, ◌^◌, ◌<◌, map, IfOk, string_bytes};
+ghost use Rattle.std.specs.Prelude.{◌≡◌, ◌^◌, ◌<◌, length, map, IfOk, string_bytes};
+ghost use Rattle.script.specs.Parts.{script_from};
 ghost use Rattle.script.specs.Scripts.{said_of};
 ghost use Rattle.answers.specs.Printing.{refusal_line};
-ghost use Rattle.answers.specs.Desk.{Serves, DeskAnswers};
+ghost use Rattle.answers.specs.Desk.{Serves, Told, DeskAnswers};
 
 use super::lines::write_refusal;
 use super::requests::requests_in;
@@ -58,18 +59,16 @@ fn served<B: Book + Drop>(
     text_of(heap, sizes, lines, requests.as_slice())
 }
 
-// What is printed of an input: a line or more for each line of its script, or the first fault of its book file. The
-// one thing that is open is whether there is memory.
-pub fn desk(heap: Global, input: &[u8]) -> Result<String, AllocError>
-    ensures { IfOk result (λ s. DeskAnswers input.now (string_bytes s)) }
+// Reads the book file into the tables that are lent, and answers the script.
+fn told(
+    heap: Global,
+    parts: Parts<'_>,
+    records: &mut [Record],
+    worths: &mut [i64],
+) -> Result<String, AllocError>
+    ensures { IfOk result (λ s. Told (length records.old) (length worths.old) parts.entry.book.now (script_from parts.entry.first parts.entry.script.now) (string_bytes s)) }
 {
-    if input.len() > LONGEST {
-        return refused(heap, 0, 25, (0, 0, 0));
-    }
-    let parts = Parts::of(input);
-    let mut records = vec![in heap; Record::default(); RECORDS]?;
-    let mut worths = vec![in heap; 0; CONDITIONS]?;
-    let found = match read(parts.book, records.as_mut_slice(), worths.as_mut_slice()) {
+    let found = match read(parts.book, records, worths) {
         Ok(found) => found,
         Err(fault) => {
             let places = fault.places();
@@ -81,10 +80,28 @@ pub fn desk(heap: Global, input: &[u8]) -> Result<String, AllocError>
         sizes.conditions,
         sizes.remedies,
         sizes.parts,
-        &records.as_slice()[..found.count],
-        &worths.as_slice()[..sizes.conditions],
+        &records[..found.count],
+        &worths[..sizes.conditions],
     )
     .unwrap();
     let lines = lines_of(heap, parts)?;
     served(heap, sizes, book, lines.as_slice())
+}
+
+// What is printed of an input: a line or more for each line of its script, or the first fault of its book file. The
+// one thing that is open is whether there is memory.
+pub fn desk(heap: Global, input: &[u8]) -> Result<String, AllocError>
+    ensures { IfOk result (λ s. DeskAnswers input.now (string_bytes s)) }
+{
+    if input.len() > LONGEST {
+        return refused(heap, 0, 25, (0, 0, 0));
+    }
+    let mut records = vec![in heap; Record::default(); RECORDS]?;
+    let mut worths = vec![in heap; 0; CONDITIONS]?;
+    told(
+        heap,
+        Parts::of(input),
+        records.as_mut_slice(),
+        worths.as_mut_slice(),
+    )
 }
