@@ -1,0 +1,6 @@
+pub mod Words
+pub mod Printing
+pub mod Requests
+pub mod Texts
+pub mod Views
+pub mod Desk

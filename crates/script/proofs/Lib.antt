@@ -1,0 +1,4 @@
+pub mod Wording
+pub mod Tabled
+pub mod Ordered
+pub mod Parting

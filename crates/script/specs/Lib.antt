@@ -1,0 +1,6 @@
+pub mod Words
+pub mod Orders
+pub mod Forms
+pub mod Commands
+pub mod Parts
+pub mod Scripts
