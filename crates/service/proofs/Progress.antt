@@ -11,15 +11,7 @@ use Rattle.service.specs.Calls.{standing, standing_after}
 use Rattle.service.specs.declared.call.Call.{Call}
 use Rattle.service.specs.declared.call.CallRefusal.{CallRefusal}
 use Rattle.service.specs.Serving.{Answers, Answered, Served}
-use Rattle.service.specs.Laws.{PartsAreTheWhole}
-
-module _ {C V A : Type 0} (ops : C → Ops V A) (m : Model) where
-  -- a list that is served in two parts
-  pub parts : (xs ys : List (Request C V)) (ns : List Note) (xs' ys' : List (Request C V)) → Served ops m ns xs ys → Served ops m (standing_after m ns xs) xs' ys' → Served ops m ns (xs ++ xs') (ys ++ ys')
-  parts [] [] ns xs' ys' p q = q
-  parts [] (z ∷ ys) ns xs' ys' p q = absurd p
-  parts (w ∷ xs) [] ns xs' ys' p q = absurd p
-  parts (w ∷ xs) (z ∷ ys) ns xs' ys' p q = (p.0, parts xs ys (standing m ns w.call) xs' ys' p.1 q)
+use Rattle.service.proofs.Parts.{parts}
 
 -- W are books
 module _ {C V A W : Type 0} (ops : C → Ops V A) (model : W → Model) where
@@ -48,6 +40,3 @@ module _ {C V A W : Type 0} (ops : C → Ops V A) (model : W → Model) where
         rest = drop-set-lt (i + 1) ys i y (omega arith) ∙ tails;
         book = eb ∙ p.book;
       }
-
-pub parts_are_the_whole : {C V A : Type 0} (ops : C → Ops V A) → PartsAreTheWhole ops
-parts_are_the_whole ops m ns xs ys xs' ys' p q = parts ops m xs ys ns xs' ys' p q
