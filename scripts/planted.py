@@ -6,7 +6,7 @@ Reads scripts/planted.txt: a bug is a line FILE: WHAT IT IS, then the text that 
 bug's crate, and the file is put back. It prints a table row for each (docs/PLANTED.md is made so), and ends with
 status 1 if a bug was not refused.
 
-    scripts/planted.py [WORD]        only bugs whose first line has the word
+    scripts/planted.py [WORD ..]     only bugs whose first line has one of the words
 """
 import os
 import re
@@ -57,14 +57,14 @@ def try_bug(copy, path, old, new):
 
 
 def main():
-    word = sys.argv[1] if len(sys.argv) > 1 else ''
+    words = sys.argv[1:] or ['']
     copy = tempfile.mkdtemp(prefix='planted-')
     missed = 0
     try:
         root = os.path.join(copy, 'repository')
         subprocess.run(['git', 'clone', '-q', HERE, root], check=True)
         for path, what, old, new in bugs():
-            if word not in f'{path}: {what}':
+            if not any(word in f'{path}: {what}' for word in words):
                 continue
             verdict, where = try_bug(root, path, old, new)
             missed += verdict != 'refused'
