@@ -86,6 +86,10 @@ QuoteAnswers bs (Err (Question f)) t t' = (length bs ≤ 32768) × QuestionFault
 QuoteAnswers bs (Err (File f)) t t' = (length bs ≤ 32768) × FileFaulty bs (reported_file f) × TablesKept t t'
 QuoteAnswers bs (Err (Plan f)) t t' = (a : Request) × Asks bs (good a) × PlannedIn a (Err f) t t'
 
+-- the tables after some answer to these bytes
+abbrev pub SomeAnswer : Bytes → Tables → Tables → Type 0
+SomeAnswer bs t t' = (a : Result Quote Fault) × QuoteAnswers bs a t t'
+
 -- two answers to an input print alike, and leave the same tables
 abbrev pub AnswersAreOne : Type 0
 AnswersAreOne = (bs : Bytes) (a b : Result Quote Fault) (t t' u' : Tables) → QuoteAnswers bs a t t' → QuoteAnswers bs b t u' → (printed a t'.values.items t'.remedies.items ≡ printed b u'.values.items u'.remedies.items) × TablesKept t' u'

@@ -2,7 +2,7 @@
 ghost use Rattle.std.specs.Prelude.{◌≡◌, ◌≤◌, length, IfOk, string_bytes};
 ghost use Rattle.quoting.specs.Faults.{fault_number, fault_places};
 ghost use Rattle.quoting.specs.Printing.{refusal_line, text_of_plan, printed};
-ghost use Rattle.quoting.specs.Quotes.{Quotes};
+ghost use Rattle.quoting.specs.Quotes.{Quotes, SomeAnswer};
 
 use super::fault::Fault;
 use super::quote::quote;
@@ -60,7 +60,8 @@ pub fn text(
 // What is printed of the bytes of an input: the whole of `quote`, worked in the tables.
 #[tactic(auto, using(crate::proofs::Answered::answer_quoted))]
 pub fn quoted(heap: Global, bytes: &[u8], tables: &mut Tables) -> Result<String, AllocError>
-    ensures { IfOk result (λ s. Quotes bytes.now (string_bytes s)) }
+    ensures output { IfOk result (λ s. Quotes bytes.now (string_bytes s)) }
+    ensures tables { SomeAnswer bytes.now tables.old tables.new }
 {
     let answer = quote(bytes, tables);
     text(heap, answer, tables)
