@@ -7,5 +7,6 @@ pub mod Exactness
 pub mod Unfolding
 pub mod Cutting
 pub mod Advancing
-pub mod Filling
+pub mod Putting
 pub mod Passes
+pub mod Writing

@@ -46,5 +46,5 @@ CheckAnswers m w bs (Ok b) = (l : WrittenBook) × Holds m w bs l b
 CheckAnswers m w bs (Err f) = reading m w bs ≡ faulty (reported_file f)
 
 abbrev pub FillAnswers : Bytes → Result ReadBook FileFault → (es es' : List Record) (zs zs' : List ℤ) → Type 0
-FillAnswers bs (Ok r) es es' zs zs' = (b : WrittenBook) × (reading (length es) (length zs) bs ≡ good b) × Filled b r es es' zs zs'
+FillAnswers bs (Ok r) es es' zs zs' = ReadAnswers bs (Ok r) es es' zs zs'
 FillAnswers bs (Err f) es es' zs zs' = reading (length es) (length zs) bs ≡ faulty (reported_file f)

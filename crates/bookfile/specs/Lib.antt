@@ -1,8 +1,11 @@
 pub mod Faults
+pub mod Refusals
 pub mod Entries
 pub mod File
 pub mod FileFaults
 pub mod FileCalls
 pub mod Reading
+pub mod Writing
 pub mod Entered
 pub mod Advance
+pub mod Filling

@@ -1,4 +1,4 @@
-// The book file, and reading it.
+// The book file: reading it, and writing it.
 #![tactic(auto)]
 
 mod entries;
@@ -7,3 +7,8 @@ pub mod laws;
 mod progress;
 pub mod read;
 mod reader;
+pub mod refusal;
+#[cfg(test)]
+mod tests;
+mod text;
+pub mod write;

@@ -37,16 +37,17 @@ fn fill(bytes: &[u8], records: &mut [Record], worths: &mut [i64]) -> Result<Read
 {
     let mut reader = Reader::begun(bytes, Room::of(records, worths))?;
     loop {
-        match reader.next()? {
-            Entry::Outcome(record) => records[reader.count() - 1] = record,
-            Entry::Worth { condition, worth } => worths[condition] = worth,
-            Entry::End => return reader.ended(),
+        let entry = reader.next()?;
+        if let Entry::End = entry {
+            return reader.ended();
         }
+        reader.put(entry, records, worths);
     }
 }
 
 // Reads a book file: fills the records and the worths, and answers what it holds. A file that is
 // declined changes neither.
+#[tactic(auto, using(crate::proofs::Passes::fault_exact))]
 pub fn read(bytes: &[u8], records: &mut [Record], worths: &mut [i64]) -> Result<ReadBook, FileFault>
     ensures answer { ReadAnswers bytes.now result records.old records.new worths.old worths.new }
     ensures readable { IfOk result (λ b. Readable b (length records.old) (length worths.old)) }

@@ -6,11 +6,13 @@ ghost use Rattle.bookfile.specs.declared.progress.Room.{Room};
 ghost use Rattle.bookfile.specs.Advance.{so_far, ComeTo, ComeToEnd, CameTo, Declined, Stands};
 ghost use Rattle.bookfile.specs.Entries.{Readable};
 ghost use Rattle.bookfile.specs.FileCalls.{Holds};
+ghost use Rattle.bookfile.specs.Filling.{EntryPut};
 
 use super::entries::{Entry, entry_of, sizes_of};
 use super::faults::FileFault;
 use super::progress::{Progress, Room};
 use super::read::ReadBook;
+use books::record::Record;
 use fields::lines::cut_line;
 
 // What stands of a file, and the bytes of its other lines.
@@ -30,13 +32,6 @@ impl<'a> Reader<'a> {
         Ok(Reader { progress, rest })
     }
 
-    // How many records stand.
-    pub(crate) fn count(&self) -> usize
-        ensures { result ≡ self.now.progress.count }
-    {
-        self.progress.count
-    }
-
     // What the next line says.
     pub(crate) fn next(&mut self) -> Result<Entry, FileFault>
         ensures read { (room : Room) (bs : Bytes) (es : List Record) (ws : List ℤ) → ComeTo room bs self.old.progress es ws self.old.rest.now → MatchResult result (λ y. CameTo room bs y self.new.progress es ws self.new.rest.now) (Declined room bs) }
@@ -49,6 +44,20 @@ impl<'a> Reader<'a> {
         self.progress.enter(&entry)?;
         self.rest = rest;
         Ok(entry)
+    }
+
+    // Puts what the last line said in the tables: a record after those before it, a worth at its condition.
+    #[tactic(auto, using(crate::proofs::Putting::put_last))]
+    pub(crate) fn put(&self, entry: Entry, records: &mut [Record], worths: &mut [i64])
+        requires stands { Stands entry self.now.progress }
+        requires room { self.now.progress.room ≡ record { records = length records.old; worths = length worths.old } }
+        ensures { EntryPut entry self.now.progress records.old records.new worths.old worths.new }
+    {
+        match entry {
+            Entry::Outcome(record) => records[self.progress.count - 1] = record,
+            Entry::Worth { condition, worth } => worths[condition] = worth,
+            Entry::End => {}
+        }
     }
 
     // What the file holds, after its last line.

@@ -104,9 +104,40 @@ fn list_entries(rt: HostRuntime) {
     }
 }
 
+// Condition, remedy and next of two records, and whether the second may follow the first.
+const ORDERS: [((usize, usize, usize), (usize, usize, usize), bool); 7] = [
+    ((0, 0, 0), (0, 0, 1), true),
+    ((0, 0, 1), (0, 1, 0), true),
+    ((0, 1, 1), (1, 0, 0), true),
+    ((1, 1, 1), (1, 1, 1), false),
+    ((0, 0, 1), (0, 0, 0), false),
+    ((0, 1, 0), (0, 0, 1), false),
+    ((1, 0, 0), (0, 1, 1), false),
+];
+
+fn record_at(place: (usize, usize, usize)) -> Record {
+    Record {
+        condition: place.0,
+        remedy: place.1,
+        next: place.2,
+        share: 1,
+        amount: 0,
+    }
+}
+
+#[test]
+fn list_orders(rt: HostRuntime) {
+    for (first, second, follows) in ORDERS {
+        let records = [record_at(first), record_at(second)];
+        let told = if follows { Ok(()) } else { Err((13, 1, 1)) };
+        assert_eq!(rt; list_told(2, 2, 10, &records, &[0, 0]), told);
+    }
+}
+
 // How many shares, amounts and worths are lent, one of each, and what is told.
-const TABLES: [(usize, usize, usize, u32, i64, i64, Told); 13] = [
+const TABLES: [(usize, usize, usize, u32, i64, i64, Told); 16] = [
     (8, 8, 2, 10, 1_000_000, -1_000_000, Ok(())),
+    (8, 8, 2, 10, -1_000_000, 1_000_000, Ok(())),
     (7, 8, 2, 10, 0, 0, Err((12, 0, 0))),
     (9, 8, 2, 10, 0, 0, Err((12, 0, 0))),
     (8, 7, 2, 10, 0, 0, Err((12, 0, 0))),
@@ -115,7 +146,9 @@ const TABLES: [(usize, usize, usize, u32, i64, i64, Told); 13] = [
     (8, 8, 3, 10, 0, 0, Err((12, 0, 0))),
     (8, 8, 2, 11, 0, 0, Err((13, 1, 5))),
     (8, 8, 2, 10, 1_000_001, 0, Err((13, 2, 6))),
+    (8, 8, 2, 10, -1_000_001, 0, Err((13, 2, 6))),
     (8, 8, 2, 10, i64::MIN, 0, Err((13, 2, 6))),
+    (8, 8, 2, 10, 0, 1_000_001, Err((13, 3, 1))),
     (8, 8, 2, 10, 0, -1_000_001, Err((13, 3, 1))),
     (8, 8, 2, 11, 1_000_001, 1_000_001, Err((13, 1, 5))),
     (8, 8, 2, 10, 1_000_001, 1_000_001, Err((13, 2, 6))),

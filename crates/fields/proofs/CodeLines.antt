@@ -45,7 +45,13 @@ module _ (c : ℕ) where
       (λ e k. (ap (λ y. y ∷ xs) (eqb-true x c e), refl))
       (λ e k. let r = split_at xs (omega arith) in (ap (λ t. x ∷ t) r.0, ap (λ p. (x ∷ p.0, p.1)) r.1)) h
 
-  pub parted_at : (bs : Bytes) (at : ℕ) → at ≡ length (split c bs).0 → at < length bs → Parted bs at (take (length bs - (at + 1)) (drop (at + 1) bs))
+  parted_at : (bs : Bytes) (at : ℕ) → at ≡ length (split c bs).0 → at < length bs → Parted bs at (take (length bs - (at + 1)) (drop (at + 1) bs))
   parted_at bs at e h =
       let after : take (length bs - (at + 1)) (drop (at + 1) bs) ≡ drop (suc at) bs = take_all _ (drop (at + 1) bs) (omega (arith, length-drop (at + 1) bs)) ∙ ap (λ (n : ℕ). drop n bs) (add-one at) in
       subst (Parted bs at) (sym after) (subst (λ n. Parted bs n (drop (suc n) bs)) (sym e) (split_at bs (omega arith)))
+
+  pub parted_whole : (bs : Bytes) (at : ℕ) → at ≡ length (split c bs).0 → at < length bs → bs ≡ take at bs ++ (c ∷ take (length bs - (at + 1)) (drop (at + 1) bs))
+  parted_whole bs at e h = (parted_at bs at e h).0
+
+  pub parted_split : (bs : Bytes) (at : ℕ) → at ≡ length (split c bs).0 → at < length bs → split c bs ≡ (take at bs, (split c (take (length bs - (at + 1)) (drop (at + 1) bs))).0 ∷ (split c (take (length bs - (at + 1)) (drop (at + 1) bs))).1)
+  parted_split bs at e h = (parted_at bs at e h).1

@@ -9,6 +9,7 @@ pub fn line_faults_are_exact()
 {}
 
 // What std prints of a number, plain or with a sign, is its numeral.
+#[tactic(auto, using(crate::proofs::Printed::numeral_printed, crate::proofs::Printed::signed_printed))]
 pub fn numerals_are_printed()
     ensures { NumeralsArePrinted }
 {}

@@ -20,6 +20,7 @@ pub fn place_of(byte: u8, bytes: &[u8]) -> Option<usize>
 }
 
 // The bytes before the first such byte, and those after it.
+#[tactic(auto, using(crate::proofs::CodeLines::parted_whole, crate::proofs::CodeLines::parted_split))]
 pub(crate) fn parted<'a>(byte: u8, bytes: &'a [u8]) -> Option<(&'a [u8], &'a [u8])>
     ensures { MatchOption result (split byte bytes.now ≡ (bytes.now, [])) (λ p. (bytes.now ≡ p.0.now ++ (byte ∷ p.1.now)) × (split byte bytes.now ≡ (p.0.now, (split byte p.1.now).0 ∷ (split byte p.1.now).1))) }
 {

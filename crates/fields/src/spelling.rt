@@ -6,6 +6,7 @@ use arrayvec::ArrayString;
 use itoa::Buffer;
 
 // The digits of a number, of which there are 20 at most.
+#[tactic(auto, using(crate::proofs::Printed::numeral_printed))]
 pub fn digits_of(number: u64) -> ArrayString<20>
     ensures { result.bytes ≡ numeral number }
 {

@@ -6,7 +6,6 @@ use Rattle.criteria.specs.Policies.{History, onward}
 use Rattle.criteria.specs.Expected.{gain}
 use Rattle.criteria.specs.Floor.{floor}
 use Rattle.criteria.specs.Least.{Possible, Least}
-use Rattle.planning.specs.Plans.{PlanAnswers}
 use Rattle.totals.specs.Totals.{LeastTotals}
 use Rattle.totals.specs.Floors.{floors_are_totals}
 use Rattle.totals.proofs.Behind.{planned_totals}
@@ -21,7 +20,7 @@ use Rattle.following.specs.Runs.Does.{treats, treats_not, reports, reports_not, 
 use Rattle.following.specs.Runs.Runs.{ends, goes, stops}
 use Rattle.following.specs.Courses.{settled_at, AtLeast}
 use Rattle.following.specs.declared.call.Turn.{Turn}
-use Rattle.following.specs.Following.{calls_of, planned_floor, LeadsOn, RoundAnswers}
+use Rattle.following.specs.Following.{calls_of, planned_floor, LeadsOn, Led}
 use Rattle.following.specs.Laws.{RoundsAreCovered}
 use Rattle.following.proofs.Accepted.{begin_is, treat_is, report_is, settle_is}
 use Rattle.following.proofs.Totals.{only_one, plan, due_is, next_length, carried, nothing_got}
@@ -83,9 +82,9 @@ rounds_are_covered_lem m H n vs vs' rs rs' lawful plans s a e ds zs run =
     let least = planned_totals floor LeastTotals floors_are_totals m H lawful (Ok n) vs vs' rs rs' plans in
     covered_from m H s vs' rs' least is.1 ds zs (subst (λ (y : Arrival). Runs m rs' (Waiting y) ds zs) (sym is.0) run)
 
--- what the plan, begin and the turns answer, put together
-pub followed : (m : Model) (H s k n : ℕ) (vs vs' : List ℤ) (rs rs' : List ℕ) (ts ts' : List Turn) (a : Arrival) → PlanAnswers floor m H (Ok k) vs vs' rs rs' → LeastTotals m H rs' vs' → Ok a ≡ to_begin (offers m) H s → LeadsOn m rs' (Waiting a) n ts ts' → RoundAnswers m H s (Ok n) vs vs' rs rs' ts ts'
-followed m H s k n vs vs' rs rs' ts ts' a plans least e leads =
+-- what a round is that was planned, begun and led
+pub led_as_planned : (m : Model) (H s n : ℕ) (vs' : List ℤ) (rs' : List ℕ) (ts ts' : List Turn) (a : Arrival) → LeadsOn m rs' (Waiting a) n ts ts' → Ok a ≡ to_begin (offers m) H s → LeastTotals m H rs' vs' → Led m H s n vs' rs' ts ts'
+led_as_planned m H s n vs' rs' ts ts' a leads e least =
     let is = begin_is (offers m) H s a (sym e) in
     let from = subst (λ (y : Arrival). LeadsOn m rs' (Waiting y) n ts ts') (sym is.0) leads in
-    ((refl, plans.1, plans.2), record { condition = is.1; leads = from; covered = covered_from m H s vs' rs' least is.1 (calls_of ts) from.replies from.runs })
+    record { condition = is.1; leads = from; covered = covered_from m H s vs' rs' least is.1 (calls_of ts) from.replies from.runs }

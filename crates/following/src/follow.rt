@@ -61,10 +61,9 @@ impl Unfollowed {
 }
 
 // Makes the calls one after another, until the state allows the next no more; answers how many were made.
-fn lead<B: Book>(book: &B, remedies: &[u8], lock: Lock, turns: &mut [Turn]) -> usize
+fn lead<B: Book>(book: &B, remedies: &[u8], mut lock: Lock, turns: &mut [Turn]) -> usize
     ensures { LeadsOn (B.model book.now) remedies.now lock result turns.old turns.new }
 {
-    let mut lock = lock;
     let mut made = 0;
     for turn in turns {
         let (reply, after) = lock.reply(book, remedies, turn.call);

@@ -13,8 +13,8 @@ pub enum Lock {
 }
 
 impl Lock {
-    #[tactic(auto, using(crate::proofs::Steps::treated, crate::proofs::Steps::not_treated, crate::proofs::Steps::reported, crate::proofs::Steps::not_reported, crate::proofs::Steps::settled, crate::proofs::Steps::not_settled))]
     // Makes a call. Where the state does not allow it, there is no reply, and the round is over.
+    #[tactic(auto, using(crate::proofs::Steps::treated, crate::proofs::Steps::not_treated, crate::proofs::Steps::reported, crate::proofs::Steps::not_reported, crate::proofs::Steps::settled, crate::proofs::Steps::not_settled))]
     pub(crate) fn reply<B: Book>(
         self,
         book: &B,

@@ -14,11 +14,11 @@ use Rattle.planning.proofs.Refused.PlanView.{at_accepted_plan}
 use Rattle.planning.proofs.Refused.JudgeView.{at_accepted_judge}
 
 -- a table kept past its first entries, with the same first entries
-whole_table : {V : Type 0} (n : ℕ) (vs xs ys : List V) → KeptPast n vs xs → KeptPast n vs ys → take n xs ≡ take n ys → xs ≡ ys
+pub whole_table : {V : Type 0} (n : ℕ) (vs xs ys : List V) → KeptPast n vs xs → KeptPast n vs ys → take n xs ≡ take n ys → xs ≡ ys
 whole_table n vs xs ys a b e = sym (take-append-drop n xs) ∙ (λ i. e i ++ (a.past ∙ sym b.past) i) ∙ take-append-drop n ys
 
 module _ {V A : Type 0} (o : Ops V A) (m : Model) (H : ℕ) (lawful : Lawful m) where
-  plan_seen : (vs vs' : List V) (rs rs' : List ℕ) (a : Result ℕ PlanRefusal) → PlanAnswers o m H a vs vs' rs rs' → PlanView m H (length vs) (length rs) a
+  pub plan_seen : (vs vs' : List V) (rs rs' : List ℕ) (a : Result ℕ PlanRefusal) → PlanAnswers o m H a vs vs' rs rs' → PlanView m H (length vs) (length rs) a
   plan_seen vs vs' rs rs' (Ok n) (count, taken, plan) = at_accepted_plan n count taken.in_order taken.openly taken.evenly taken.fitting
   plan_seen vs vs' rs rs' (Err f) x = seen_plan m H (length vs) (length rs) f x.1
 

@@ -39,6 +39,7 @@ fn fill_values<B: Book, C: Criterion>(
 
 // Judges a table of remedies: fills the table of its values, or says why not and leaves it. Each table is lent by
 // itself.
+#[tactic(auto, using(crate::proofs::Plans::values_are))]
 pub fn judge<B: Book, C: Criterion>(
     book: &B,
     by: &C,
@@ -46,7 +47,7 @@ pub fn judge<B: Book, C: Criterion>(
     remedies: &[u8],
     values: &mut [C::Value],
 ) -> Result<usize, PlanRefusal>
-    ensures { JudgeAnswers (C.ops by.now) (B.model book.now) visits result values.old values.new remedies.now }
+    ensures answers { JudgeAnswers (C.ops by.now) (B.model book.now) visits result values.old values.new remedies.now }
 {
     let filled = check_judgement(book, visits, values.len(), remedies)?;
     fill_values(book, by, visits, remedies, values);

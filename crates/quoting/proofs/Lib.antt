@@ -1,1 +1,5 @@
 pub mod Lines
+pub mod Exactness
+pub mod Once
+pub mod Answered
+pub mod Steps

@@ -1,10 +1,9 @@
 // What is wrong with an input, from any layer.
 ghost use Rattle.std.specs.Prelude.{◌≡◌};
 ghost use Rattle.quoting.specs.Faults.{fault_number, fault_places};
-ghost use Rattle.quoting.specs.declared.fault.Fault.TheVariants.{Question, File, Making, Plan};
+ghost use Rattle.quoting.specs.declared.fault.Fault.TheVariants.{Question, File, Plan};
 
 use bookfile::faults::FileFault;
-use books::refusal::MakingRefusal;
 use checks::refusal::PlanRefusal;
 use fields::faults::LineFault;
 
@@ -15,11 +14,10 @@ pub enum Fault {
     // In the line that asks, line 0.
     Question(LineFault),
     File(FileFault),
-    Making(MakingRefusal),
     Plan(PlanRefusal),
 }
 
-// These four by hand: a derived one promises nothing of the fault that comes out.
+// These three by hand: a derived one promises nothing of the fault that comes out.
 impl From<LineFault> for Fault {
     ghost from_gives = { λ e r. r ≡ Question e };
 
@@ -33,14 +31,6 @@ impl From<FileFault> for Fault {
 
     fn from(e: FileFault) -> Fault {
         Fault::File(e)
-    }
-}
-
-impl From<MakingRefusal> for Fault {
-    ghost from_gives = { λ e r. r ≡ Making e };
-
-    fn from(e: MakingRefusal) -> Fault {
-        Fault::Making(e)
     }
 }
 
@@ -60,7 +50,6 @@ impl Fault {
             Fault::Long => 25,
             Fault::Question(e) => e.number(),
             Fault::File(e) => e.number(),
-            Fault::Making(e) => e.number(),
             Fault::Plan(e) => e.number(),
         }
     }
@@ -73,7 +62,6 @@ impl Fault {
             Fault::Long => (0, 0, 0),
             Fault::Question(e) => e.places(),
             Fault::File(e) => e.places(),
-            Fault::Making(e) => e.places(),
             Fault::Plan(e) => e.places(),
         }
     }

@@ -35,8 +35,13 @@ pub struct Quote {
 }
 
 impl Tables {
-    // All at 0, as long as the type says. Whether there is memory for them is open.
-    pub fn new(heap: Global) -> Result<Tables, AllocError> {
+    ghost use Rattle.std.specs.Prelude.{IfOk};
+    ghost use Rattle.quoting.specs.Blank.{AllBlank};
+
+    // All at 0. Whether there is memory for them is open.
+    pub fn new(heap: Global) -> Result<Tables, AllocError>
+        ensures { IfOk result AllBlank }
+    {
         let records = vec![in heap; Record::default(); RECORDS]?;
         let worths = vec![in heap; 0; CONDITIONS]?;
         let values = vec![in heap; 0; (VISITS + 1) * CONDITIONS]?;

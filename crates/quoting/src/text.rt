@@ -2,8 +2,10 @@
 ghost use Rattle.std.specs.Prelude.{◌≡◌, ◌≤◌, length, IfOk, string_bytes};
 ghost use Rattle.quoting.specs.Faults.{fault_number, fault_places};
 ghost use Rattle.quoting.specs.Printing.{refusal_line, text_of_plan, printed};
+ghost use Rattle.quoting.specs.Quotes.{Quotes, SomeAnswer};
 
 use super::fault::Fault;
+use super::quote::quote;
 use super::tables::{Quote, Tables};
 use std::alloc::{AllocError, Global};
 
@@ -53,4 +55,14 @@ pub fn text(
         ),
         Err(fault) => fault_text(heap, &fault),
     }
+}
+
+// What is printed of the bytes of an input: the whole of `quote`, worked in the tables.
+#[tactic(auto, using(crate::proofs::Answered::answer_quoted))]
+pub fn quoted(heap: Global, bytes: &[u8], tables: &mut Tables) -> Result<String, AllocError>
+    ensures output { IfOk result (λ s. Quotes bytes.now (string_bytes s)) }
+    ensures tables { SomeAnswer bytes.now tables.old tables.new }
+{
+    let answer = quote(bytes, tables);
+    text(heap, answer, tables)
 }

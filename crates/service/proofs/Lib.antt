@@ -1,4 +1,5 @@
 pub mod Performed
+pub mod Parts
 pub mod Progress
 pub mod Determined
 pub mod Unchanged

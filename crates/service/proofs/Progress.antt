@@ -1,5 +1,6 @@
 -- A list of calls of which the first are served.
-use Rattle.std.proofs.Common.{◌≡◌, ℕ, ◌+◌, ◌<◌, List, [], ◌∷◌, ◌++◌, length, take, drop, get_or, set, ap, ◌∙◌, arith}
+use Rattle.std.proofs.Common.{◌≡◌, ℕ, ◌+◌, ◌<◌, List, [], ◌∷◌, ◌++◌, length, take, drop, get_or, set, refl, ap, ◌∙◌, arith, Some}
+use Rattle.std.specs.Prelude.{Result}
 use Rattle.std.proofs.lemmas.List.{take_more, drop_more, take_more_set, drop-set-lt}
 use Rattle.std.proofs.lemmas.List.Sums.{fold-append}
 use Rattle.model.specs.Model.{Model}
@@ -7,37 +8,35 @@ use Rattle.criteria.specs.Criteria.{Ops}
 use Rattle.sheets.specs.declared.note.Note.{Note}
 use Rattle.service.specs.declared.call.Request.{Request}
 use Rattle.service.specs.Calls.{standing, standing_after}
-use Rattle.service.specs.Serving.{Answered, Served}
-use Rattle.service.specs.Laws.{PartsAreTheWhole}
+use Rattle.service.specs.declared.call.Call.{Call}
+use Rattle.service.specs.declared.call.CallRefusal.{CallRefusal}
+use Rattle.service.specs.Serving.{Answers, Answered, Served}
+use Rattle.service.proofs.Parts.{parts}
 
-module _ {C V A : Type 0} (ops : C → Ops V A) (m : Model) where
-  -- a list that is served in two parts
-  pub parts : (xs ys : List (Request C V)) (ns : List Note) (xs' ys' : List (Request C V)) → Served ops m ns xs ys → Served ops m (standing_after m ns xs) xs' ys' → Served ops m ns (xs ++ xs') (ys ++ ys')
-  parts [] [] ns xs' ys' p q = q
-  parts [] (z ∷ ys) ns xs' ys' p q = absurd p
-  parts (w ∷ xs) [] ns xs' ys' p q = absurd p
-  parts (w ∷ xs) (z ∷ ys) ns xs' ys' p q = (p.0, parts xs ys (standing m ns w.call) xs' ys' p.1 q)
-
-  -- of the requests xs, which are now ys, the first i are served; the notes now stand
-  pub record Progress (ns : List Note) (xs ys : List (Request C V)) (now : List Note) (i : ℕ) : Type 0 where
-    pub served : Served ops m ns (take i xs) (take i ys)
-    pub notes : now ≡ standing_after m ns (take i xs)
+-- W are books
+module _ {C V A W : Type 0} (ops : C → Ops V A) (model : W → Model) where
+  -- of the requests xs, which are now ys, the first i are served on the book b₀ from the notes ns; the notes now stand, over the book b
+  pub record Progress (b₀ : W) (ns : List Note) (xs ys : List (Request C V)) (b : W) (now : List Note) (i : ℕ) : Type 0 where
+    pub served : Served ops (model b₀) ns (take i xs) (take i ys)
+    pub notes : now ≡ standing_after (model b₀) ns (take i xs)
     pub rest : drop i ys ≡ drop i xs
+    pub book : b ≡ b₀
 
-  pub onward : (ns : List Note) (xs ys : List (Request C V)) (now later : List Note) (i : ℕ) (d y : Request C V) → length ys ≡ length xs → i < length ys → Progress ns xs ys now i → Answered ops m now (get_or ys i d) y → later ≡ standing m now (get_or ys i d).call → Progress ns xs (set ys i y) later (i + 1)
-  onward ns xs ys now later i d y long l p a e =
+  pub onward : (b₀ b b' : W) (ns : List Note) (xs ys : List (Request C V)) (now later : List Note) (i : ℕ) (d : Request C V) (a : Result ℕ CallRefusal) (back : Call C V) → Progress b₀ ns xs ys b now i → length ys ≡ length xs → i < length ys → Answers ops (model b) now (get_or ys i d).call a back → later ≡ standing (model b) now (get_or ys i d).call → b' ≡ b → Progress b₀ ns xs (set ys i (record { call = back; answer = Some a })) b' later (i + 1)
+  onward b₀ b b' ns xs ys now later i d a back p long l h e eb =
+      let x = get_or ys i d in
+      let y : Request C V = record { call = back; answer = Some a } in
       let lx : i < length xs = omega arith in
       let ex = drop_more xs i d lx in
       let ey = drop_more ys i d l in
       let r = p.rest in
-      let same : get_or xs i d ≡ get_or ys i d = cc in
+      let same : get_or xs i d ≡ x = cc in
       let tails : drop (i + 1) ys ≡ drop (i + 1) xs = cc in
-      let t : take (i + 1) xs ≡ take i xs ++ get_or ys i d ∷ [] = take_more xs i d lx ∙ ap (λ z. take i xs ++ z ∷ []) same in
+      let t : take (i + 1) xs ≡ take i xs ++ x ∷ [] = take_more xs i d lx ∙ ap (λ z. take i xs ++ z ∷ []) same in
+      let here : Answered ops (model b₀) now x y = record { answer = a; written = refl; performed = rw p.book at h } in
       record {
-        served = rw (t, take_more_set ys i y l) (parts (take i xs) (take i ys) ns (get_or ys i d ∷ []) (y ∷ []) p.served (rw (← p.notes) a, tt));
-        notes = rw (t, fold-append (λ ns x. standing m ns x.call) ns (take i xs) (get_or ys i d ∷ []), ← p.notes) e;
+        served = rw (t, take_more_set ys i y l) (parts ops (model b₀) (take i xs) (take i ys) ns (x ∷ []) (y ∷ []) p.served (rw (← p.notes) here, tt));
+        notes = rw (t, fold-append (λ ns x. standing (model b₀) ns x.call) ns (take i xs) (x ∷ []), ← p.notes) (rw p.book at e);
         rest = drop-set-lt (i + 1) ys i y (omega arith) ∙ tails;
+        book = eb ∙ p.book;
       }
-
-pub parts_are_the_whole : {C V A : Type 0} (ops : C → Ops V A) → PartsAreTheWhole ops
-parts_are_the_whole ops m ns xs ys xs' ys' p q = parts ops m xs ys ns xs' ys' p q

@@ -4,5 +4,3 @@
 pub mod call;
 pub mod laws;
 pub mod serve;
-#[cfg(test)]
-mod tests;

@@ -12,6 +12,7 @@ use planning::plan::plan;
 use sheets::sheet::Sheet;
 
 // One call, under the notes that stand.
+#[tactic(auto, using(crate::proofs::Performed::judged, crate::proofs::Performed::planned, crate::proofs::Performed::led, crate::proofs::Performed::taken_up))]
 fn perform<B: Book, C: Criterion>(
     sheet: &mut Sheet<B>,
     call: &mut Call<C, C::Value>,
@@ -44,42 +45,22 @@ fn perform<B: Book, C: Criterion>(
             ref mut visits,
             ref mut values,
             ref mut remedies,
-        } => judge(
-            &*sheet,
-            criterion,
-            *visits,
-            remedies.as_slice(),
-            values.as_mut_slice(),
-        )
-        .map_err(CallRefusal::from),
+        } => judge(&*sheet, criterion, *visits, remedies, values).map_err(CallRefusal::from),
         Call::Plan {
             ref mut criterion,
             ref mut visits,
             ref mut values,
             ref mut remedies,
-        } => plan(
-            &*sheet,
-            criterion,
-            *visits,
-            values.as_mut_slice(),
-            remedies.as_mut_slice(),
-        )
-        .map_err(CallRefusal::from),
+        } => plan(&*sheet, criterion, *visits, values, remedies).map_err(CallRefusal::from),
         Call::Round {
             ref mut visits,
             ref mut condition,
             ref mut values,
             ref mut remedies,
             ref mut turns,
-        } => follow(
-            &*sheet,
-            *visits,
-            *condition,
-            values.as_mut_slice(),
-            remedies.as_mut_slice(),
-            turns.as_mut_slice(),
-        )
-        .map_err(CallRefusal::from),
+        } => follow(&*sheet, *visits, *condition, values, remedies, turns).map_err(
+            CallRefusal::from,
+        ),
     }
 }
 

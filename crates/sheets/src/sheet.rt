@@ -49,6 +49,13 @@ impl<B: Book> Sheet<B> {
         self.book
     }
 
+    // The book below, as it is without the notes.
+    pub fn book(&self) -> &B
+        ensures { result.now ≡ self.now.book }
+    {
+        &self.book
+    }
+
     // How many notes stand; the next is entered at the place after them.
     pub fn standing(&self) -> usize
         ensures answer { result ≡ length self.now.notes }

@@ -95,14 +95,44 @@ fn dear_surcharges(rt: HostRuntime) -> Result<(), Fail> {
     let calls = [
         (0, 1_000_000, 1, 48, Ok(1)),
         (1, -1_000_000, 1, 1, Ok(2)),
+        (1, 0, 48, 48, Ok(3)),
         (0, 1_000_001, 1, 1, Err(Dear)),
         (0, -1_000_001, 1, 1, Err(Dear)),
+        (0, 0, 1, 49, Err(Span)),
+        (0, 0, 0, 1, Err(Span)),
         (0, 1_000_001, 1, 49, Err(Span)),
         (2, 1_000_001, 1, 49, Err(Unknown)),
     ];
     for (remedy, amount, first, last, answer) in calls {
         assert_eq!(rt; sheet.surcharge(remedy, amount, first, last), answer);
     }
+    Ok(())
+}
+
+// A note lasts from its first visit at the least to visit 48 at the most.
+#[test]
+fn prolonged_spans(rt: HostRuntime) -> Result<(), Fail> {
+    let mut sheet = laid(rt.alloc(), Flat)?;
+    assert_eq!(rt; sheet.surcharge(0, 1, 9, 10), Ok(1));
+    let calls = [
+        (1, 48, Ok(1)),
+        (1, 49, Err(Span)),
+        (1, 9, Ok(1)),
+        (1, 8, Err(Span)),
+        (0, 48, Err(Unknown)),
+        (2, 48, Err(Unknown)),
+    ];
+    for (place, last, answer) in calls {
+        assert_eq!(rt; sheet.prolong(place, last), answer);
+    }
+    assert_eq!(rt;
+        sheet.note(1),
+        Some(Note {
+            remedy: 0,
+            visits: Visits { first: 9, last: 9 },
+            effect: Effect::Surcharge { amount: 1 },
+        })
+    );
     Ok(())
 }
 

@@ -7,6 +7,7 @@ use model::Book;
 use planning::judge::judge;
 
 // Judges a table of remedies by a criterion of totals. The values are the totals of the table.
+#[tactic(auto, using(crate::proofs::Behind::judged_totals))]
 pub fn judge_totals<C: Totalled, B: Book>(
     book: &B,
     visits: usize,

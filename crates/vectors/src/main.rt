@@ -2,18 +2,16 @@
 // NAME.in and the expected output NAME.out. Prints the name of each case that differs, and the count.
 #![tactic(auto)]
 
-use quoting::quote::quote;
 use quoting::tables::Tables;
-use quoting::text::text;
+use quoting::text::quoted;
 use std::fs;
 
 fn agrees(rt: &HostRuntime, tables: &mut Tables, name: &str) -> anyhow::Result<bool> {
     let heap = rt.alloc();
     let input = fs::read(rt, format!(in heap; "{name}.in")?.as_str())?;
     let expected = fs::read(rt, format!(in heap; "{name}.out")?.as_str())?;
-    let answer = quote(input.as_slice(), tables);
-    let printed = text(heap, answer, tables)?;
-    Ok(printed.as_bytes() == expected.as_slice())
+    let output = quoted(heap, input.as_slice(), tables)?;
+    Ok(output.as_bytes() == expected.as_slice())
 }
 
 fn main(rt: HostRuntime) -> anyhow::Result<()> {

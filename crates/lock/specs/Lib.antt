@@ -1,0 +1,3 @@
+pub mod Lock
+pub mod Noted
+pub mod Round
