@@ -1,2 +1,4 @@
 pub mod Written
 pub mod Telling
+pub mod Asked
+pub mod LineTexts

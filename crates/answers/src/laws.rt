@@ -1,0 +1,13 @@
+// What holds of every script and of every input; each contract is a theorem.
+ghost use Rattle.answers.specs.Laws.{EachOrderIsARequest, RoundsTakeTheirTurns, EachLineIsAnswered};
+
+// A script makes one request for each order that is not a turn, in order; and a round takes its own turns, all of them.
+pub fn each_order_is_a_request()
+    ensures requests { EachOrderIsARequest }
+    ensures turns { RoundsTakeTheirTurns }
+{}
+
+// Each line is answered by a text of its own, in order.
+pub fn each_line_is_answered()
+    ensures { EachLineIsAnswered }
+{}
