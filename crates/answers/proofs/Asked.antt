@@ -1,5 +1,5 @@
 -- The requests of a script: one for each order that is not a turn, and a round with its own turns.
-use Rattle.std.proofs.Common.{◌≡◌, ℕ, suc, ◌+◌, ◌*◌, ◌<◌, ◌≤◌, true, false, cond, ◌&&◌, List, [], ◌∷◌, ◌++◌, length, replicate, ℤ, pos, Some, None, Option, refl, sym, ap, ◌∙◌, subst, arith}
+use Rattle.std.proofs.Common.{◌≡◌, ℕ, ◌+◌, ◌*◌, ◌≤◌, false, ◌&&◌, List, [], ◌∷◌, ◌++◌, length, replicate, pos, None, Option, refl, ap, ◌∙◌, arith}
 use Rattle.std.proofs.lemmas.List.{length-replicate, get_or-replicate}
 use Rattle.std.specs.Cmp.Derive.{both_true}
 use Rattle.std.specs.Prelude.{not, map, filter, filter_map, slice_get, All, nat_le}
@@ -15,7 +15,7 @@ use Rattle.script.specs.Orders.Order.{bars, surcharges, prolongs, lifts, plans, 
 use Rattle.script.specs.Parts.{Said, said}
 use Rattle.answers.specs.Requests.{Brought, brought, room, requested, turned, turns_ahead, requests_of}
 use Rattle.answers.specs.Texts.{is_turn}
-use Rattle.answers.specs.Laws.{readable, call_of_turn, asks_in, turns_in, IsBlank, IsUnserved, EachOrderIsARequest, EndsARound, TakesTurns, RoundsTakeTheirTurns}
+use Rattle.answers.specs.Laws.{readable, call_of_turn, asks_in, turns_in, IsBlank, IsUnserved, EachOrderIsARequest, EndsARound, RoundsTakeTheirTurns}
 
 -- the orders that a line adds
 abbrev ask_of : Checked Order → List Order → List Order

@@ -1,7 +1,7 @@
 -- What is printed of a script that is served: a text for each line.
-use Rattle.std.proofs.Common.{◌≡◌, ◌≢◌, ℕ, true, false, List, [], ◌∷◌, ◌++◌, ℤ, pos, Some, None, Option, Ok, Err, Result, refl, sym, ap, ◌∙◌, subst}
+use Rattle.std.proofs.Common.{◌≡◌, ◌≢◌, ℕ, List, [], ◌∷◌, ◌++◌, ℤ, pos, Some, None, Option, Ok, Err, Result, refl, sym, ap, ◌∙◌, subst}
 use Rattle.std.specs.Prelude.{not, map, filter, filter_map, slice_index_or}
-use Rattle.std.specs.List.{cons_option, concat, AllZip}
+use Rattle.std.specs.List.{cons_option}
 use Rattle.model.specs.Model.{Model}
 use Rattle.criteria.specs.By.{chosen}
 use Rattle.criteria.specs.declared.by.By.{By}
@@ -25,7 +25,7 @@ use Rattle.service.specs.Serving.{Answers, Served}
 use Rattle.script.specs.Orders.{Order}
 use Rattle.script.specs.Orders.Order.{bars, surcharges, prolongs, lifts, plans, judges, begins, turns}
 use Rattle.script.specs.Parts.{Said, said}
-use Rattle.answers.specs.Requests.{Brought, called, brought_of, requests_of}
+use Rattle.answers.specs.Requests.{Brought, called, brought_of}
 use Rattle.answers.specs.Texts.{turn_line, of_turns, of_requests, after_request, accepted, answered, line_text, after_line, Remaining, remaining, printed, is_turn}
 use Rattle.answers.specs.Laws.{readable, asks_in, TextOf, LinesAnswered, EachLineIsAnswered}
 use Rattle.answers.specs.Laws.TextOf.{fault_text, silent_text, refusal_text, answer_text, plan_text, judge_text}

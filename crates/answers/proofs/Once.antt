@@ -1,5 +1,5 @@
 -- The desk answers an input in one way: what a script sees of its requests settles what it sees of them when they are served.
-use Rattle.std.proofs.Common.{◌≡◌, ℕ, ◌<◌, ◌≤◌, List, [], ◌∷◌, length, ℤ, pos, Some, None, Option, Ok, Err, Result, refl, sym, ap, ◌∙◌, subst, ⊎_elim, arith}
+use Rattle.std.proofs.Common.{◌≡◌, ℕ, List, [], ◌∷◌, length, ℤ, Some, Option, Result, refl, sym, ap, ◌∙◌, subst, ⊎_elim, arith}
 use Rattle.std.specs.Prelude.{map}
 use Rattle.std.proofs.lemmas.Bool.{cases_lt}
 use Rattle.model.specs.Model.{Model, Lawful, offers}
@@ -41,7 +41,7 @@ use Rattle.script.specs.Orders.Order.{bars, surcharges, prolongs, lifts, plans, 
 use Rattle.script.specs.Parts.{Said, book_part, script_of}
 use Rattle.answers.specs.Requests.{Brought, brought, letter_for, called, brought_of}
 use Rattle.answers.specs.Texts.{remaining, printed}
-use Rattle.answers.specs.Desk.{Serves, Tells, Told, DeskAnswers, model_of}
+use Rattle.answers.specs.Desk.{Serves, Tells, Told, model_of}
 use Rattle.answers.specs.Laws.{OneDesk}
 
 -- a criterion by its letter
@@ -124,9 +124,10 @@ module _ (m : Model) where
   replied_all ns [] [] s = tt
   replied_all ns [] (y ∷ ys) s = absurd s
   replied_all ns (x ∷ xs) [] s = absurd s
-  replied_all ns (x ∷ xs) (y ∷ ys) s =
-      ((s.0.answer, replied ns x.call y.call s.0.answer x.answer y.answer s.0.written s.0.performed),
-      subst (λ k. RepliedAll k (map brought_of xs) (map brought_of ys)) (standing_stands ns x.call x.answer) (replied_all (standing m ns x.call) xs ys s.1))
+  replied_all ns (x ∷ xs) (y ∷ ys) s = (
+    (s.0.answer, replied ns x.call y.call s.0.answer x.answer y.answer s.0.written s.0.performed),
+    subst (λ k. RepliedAll k (map brought_of xs) (map brought_of ys)) (standing_stands ns x.call x.answer) (replied_all (standing m ns x.call) xs ys s.1),
+  )
 
   all_once : Lawful m → (ns : List Note) (xs ys zs : List Brought) → RepliedAll ns xs ys → RepliedAll ns xs zs → ys ≡ zs
   all_once lawful ns [] [] [] p q = refl

@@ -9,7 +9,7 @@ use Rattle.quoting.specs.declared.question.By.{By}
 use Rattle.following.specs.declared.call.RoundCall.{RoundCall}
 use Rattle.following.specs.declared.call.Turn.{Turn}
 use Rattle.script.specs.Orders.{Order}
-use Rattle.script.specs.Orders.Order.{bars, surcharges, prolongs, lifts, plans, judges, begins, turns}
+use Rattle.script.specs.Orders.Order.{plans, judges, begins, turns}
 use Rattle.script.specs.Parts.{Said, said}
 use Rattle.answers.specs.Requests.{Brought, requests_of}
 use Rattle.answers.specs.Printing.{refusal_line, answer_line, silent_line, table_lines}
