@@ -1,7 +1,7 @@
 -- What is printed of a script that is served: a text for each line.
 use Rattle.std.proofs.Common.{◌≡◌, ◌≢◌, ℕ, List, [], ◌∷◌, ◌++◌, ℤ, pos, Some, None, Option, Ok, Err, Result, refl, sym, ap, ◌∙◌, subst}
-use Rattle.std.specs.Prelude.{not, map, filter, filter_map, slice_index_or}
-use Rattle.std.specs.List.{cons_option}
+use Rattle.std.specs.Prelude.{not, cond, zip, map, filter, filter_map, slice_index_or}
+use Rattle.std.specs.List.{cons_option, AllZip}
 use Rattle.model.specs.Model.{Model}
 use Rattle.criteria.specs.By.{chosen}
 use Rattle.criteria.specs.declared.by.By.{By}
@@ -26,8 +26,8 @@ use Rattle.script.specs.Orders.{Order}
 use Rattle.script.specs.Orders.Order.{bars, surcharges, prolongs, lifts, plans, judges, begins, turns}
 use Rattle.script.specs.Parts.{Said, said}
 use Rattle.answers.specs.Requests.{Brought, called, brought_of}
-use Rattle.answers.specs.Texts.{turn_line, of_turns, of_requests, after_request, accepted, answered, line_text, after_line, Remaining, remaining, printed, is_turn}
-use Rattle.answers.specs.Laws.{readable, asks_in, TextOf, LinesAnswered, EachLineIsAnswered}
+use Rattle.answers.specs.Texts.{request_text, turn_line, of_turns, of_requests, after_request, accepted, answered, line_text, after_line, Remaining, remaining, printed, is_turn}
+use Rattle.answers.specs.Laws.{readable, asks_in, asks, TextOf, LinesAnswered, EachLineIsAnswered}
 use Rattle.answers.specs.Laws.TextOf.{fault_text, silent_text, refusal_text, answer_text, plan_text, judge_text}
 use Rattle.answers.proofs.Asked.{orders}
 
@@ -105,12 +105,40 @@ line_step n k (good (judges c v rs)) l os h = request_step n k (judges c v rs) l
 line_step n k (good (begins v s)) l os h = request_step n k (begins v s) l.round l.requests _ h.0 h.1
 line_step n k (good (turns d)) l os h = (turn_text n k d l.round, h)
 
-lines_answered : (n : ℕ) (l : Remaining) (script : List Said) → Covers l (asks_in script) → LinesAnswered n script (printed n l script)
-lines_answered n l [] h = record { texts = []; whole = refl; each = tt }
+-- the texts of the lines that ask something, of the requests that are left
+abbrev AsServed : (n : ℕ) → List (Said × Bytes) → List Brought → Type 0
+AsServed n ps qs = AllZip (λ (p : Said × Bytes) q. p.1 ≡ request_text n p.0.number q) ps qs
+
+none_left : (n : ℕ) (qs : List Brought) → map (λ b. b.order) qs ≡ [] → AsServed n [] qs
+none_left n [] h = tt
+none_left n (b ∷ bs) h = absurd (cc)
+
+next_served : (n k : ℕ) (o : Order) (ts : List Turn) (qs : List Brought) (os : List Order) (ps : List (Said × Bytes)) → map (λ b. b.order) qs ≡ o ∷ os → AsServed n ps (after_request (remaining ts qs)).requests → AsServed n ((said k (good o), of_requests n k qs) ∷ ps) qs
+next_served n k o ts [] os ps h z = absurd (cc)
+next_served n k o ts (b ∷ bs) os ps h z = (refl, z)
+
+line_served : (n k : ℕ) (c : Checked Order) (l : Remaining) (os : List Order) (ps : List (Said × Bytes)) → map (λ b. b.order) l.requests ≡ filter (λ o. not (is_turn o)) (cons_option (readable (said k c)) os) → AsServed n ps (after_line c l).requests → AsServed n (cond (asks (said k c)) ((said k c, line_text n k c l) ∷ ps) ps) l.requests
+line_served n k (faulty e) l os ps h z = z
+line_served n k (good (bars s r f p)) l os ps h z = next_served n k (bars s r f p) l.round l.requests _ ps h z
+line_served n k (good (surcharges r x f p)) l os ps h z = next_served n k (surcharges r x f p) l.round l.requests _ ps h z
+line_served n k (good (prolongs p q)) l os ps h z = next_served n k (prolongs p q) l.round l.requests _ ps h z
+line_served n k (good (lifts p)) l os ps h z = next_served n k (lifts p) l.round l.requests _ ps h z
+line_served n k (good (plans c v)) l os ps h z = next_served n k (plans c v) l.round l.requests _ ps h z
+line_served n k (good (judges c v rs)) l os ps h z = next_served n k (judges c v rs) l.round l.requests _ ps h z
+line_served n k (good (begins v s)) l os ps h z = next_served n k (begins v s) l.round l.requests _ ps h z
+line_served n k (good (turns d)) l os ps h z = z
+
+lines_answered : (n : ℕ) (l : Remaining) (script : List Said) → Covers l (asks_in script) → LinesAnswered n script l.requests (printed n l script)
+lines_answered n l [] h = record { texts = []; whole = refl; each = tt; requests = none_left n l.requests h.0 }
 lines_answered n l (x ∷ xs) h =
     let step = line_step n x.number x.order l (filter_map readable xs) h in
     let rest = lines_answered n (after_line x.order l) xs step.1 in
-    record { texts = line_text n x.number x.order l ∷ rest.texts; whole = ap (λ z. line_text n x.number x.order l ++ z) rest.whole; each = ((step.0, some_text step.0), rest.each) }
+    record {
+      texts = line_text n x.number x.order l ∷ rest.texts;
+      whole = ap (λ z. line_text n x.number x.order l ++ z) rest.whole;
+      each = ((step.0, some_text step.0), rest.each);
+      requests = line_served n x.number x.order l (filter_map readable xs) (filter (λ p. asks p.0) (zip xs rest.texts)) h.0 rest.requests;
+    }
 
 -- a request that is served asks what it asked
 same_order : (m : Model) (ns : List Note) (c back : Call By ℤ) (a : Result ℕ CallRefusal) (x y : Option (Result ℕ CallRefusal)) → Answers chosen m ns c a back → (called back y).order ≡ (called c x).order
@@ -144,4 +172,4 @@ pub each_line_is_answered : EachLineIsAnswered
 each_line_is_answered m script output s =
     let served = served_orders m [] s.before s.after s.served in
     let lines = lines_answered m.conditions (remaining [] (map brought_of s.after)) script (served.0 ∙ ap (map (λ b. b.order)) s.asked ∙ orders m.conditions script, served.1) in
-    record { texts = lines.texts; whole = s.prints ∙ lines.whole; each = lines.each }
+    record { texts = lines.texts; whole = s.prints ∙ lines.whole; each = lines.each; requests = lines.requests }

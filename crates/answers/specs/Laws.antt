@@ -1,5 +1,5 @@
 -- What holds of every script: of its requests, of what is printed of it, and of what the desk answers.
-use Rattle.std.specs.Prelude.{◌≡◌, ◌≢◌, ℕ, ◌+◌, ◌*◌, ◌<◌, ◌≤◌, false, not, List, [], ◌∷◌, ◌++◌, map, filter, filter_map, length, slice_get, All, ℤ, pos, Some, None, Option}
+use Rattle.std.specs.Prelude.{◌≡◌, ◌≢◌, ℕ, ◌+◌, ◌*◌, ◌<◌, ◌≤◌, Bool, false, not, List, [], ◌∷◌, ◌++◌, map, filter, filter_map, length, slice_get, zip, All, ℤ, pos, Some, None, Option}
 use Rattle.std.specs.List.{AllZip, concat}
 use Rattle.model.specs.Model.{Model}
 use Rattle.fields.specs.Numerals.{Bytes}
@@ -11,9 +11,9 @@ use Rattle.following.specs.declared.call.Turn.{Turn}
 use Rattle.script.specs.Orders.{Order}
 use Rattle.script.specs.Orders.Order.{plans, judges, begins, turns}
 use Rattle.script.specs.Parts.{Said, said}
-use Rattle.answers.specs.Requests.{Brought, requests_of}
+use Rattle.answers.specs.Requests.{Brought, requests_of, brought_of}
 use Rattle.answers.specs.Printing.{refusal_line, answer_line, silent_line, table_lines}
-use Rattle.answers.specs.Texts.{fault_line, is_turn}
+use Rattle.answers.specs.Texts.{fault_line, is_turn, request_text}
 use Rattle.answers.specs.Desk.{Serves, DeskAnswers}
 
 -- the order of a line, where it has no fault, and the call of a turn
@@ -83,14 +83,24 @@ pub data TextOf (conditions k : ℕ) : Checked Order → Bytes → Type 0 where
   plan_text : (c : By) (h n : ℕ) (vs : List ℤ) (rs : List ℕ) → TextOf conditions k (good (plans c h)) (table_lines conditions vs rs n ++ answer_line k (pos n))
   judge_text : (c : By) (h n : ℕ) (ws : List ℕ) (vs : List ℤ) (rs : List ℕ) → TextOf conditions k (good (judges c h ws)) (table_lines conditions vs rs n ++ answer_line k (pos n))
 
--- what is printed of a script is one text for each of its lines, in order, and none is empty
-pub record LinesAnswered (conditions : ℕ) (script : List Said) (output : Bytes) : Type 0 where
+-- whether a line says an order which is not a turn
+abbrev pub asks : Said → Bool
+asks x = asks_by x.order
+  where
+    asks_by : Checked Order → Bool
+    asks_by (good o) = not (is_turn o)
+    asks_by (faulty e) = false
+
+-- what is printed of a script is one text for each of its lines, in order, and none is empty; the lines with an order which is
+-- not a turn have, in order, the texts of the requests as they were served, of each one
+pub record LinesAnswered (conditions : ℕ) (script : List Said) (served : List Brought) (output : Bytes) : Type 0 where
   pub texts : List Bytes
   pub whole : output ≡ concat texts
   pub each : AllZip (λ (x : Said) t. TextOf conditions x.number x.order t × (t ≢ [])) script texts
+  pub requests : AllZip (λ (p : Said × Bytes) q. p.1 ≡ request_text conditions p.0.number q) (filter (λ p. asks p.0) (zip script texts)) served
 
 abbrev pub EachLineIsAnswered : Type 0
-EachLineIsAnswered = (m : Model) (script : List Said) (output : Bytes) → Serves m script output → LinesAnswered m.conditions script output
+EachLineIsAnswered = (m : Model) (script : List Said) (output : Bytes) (s : Serves m script output) → LinesAnswered m.conditions script (map brought_of s.after) output
 
 -- no input has two outputs
 abbrev pub OneDesk : Type 0
