@@ -7,7 +7,7 @@ pub fn each_order_is_a_request()
     ensures turns { RoundsTakeTheirTurns }
 {}
 
-// Each line is answered by a text of its own, in order.
+// Each line is answered by a text of its own, in order, and each request, as it was served, at its own line.
 pub fn each_line_is_answered()
     ensures { EachLineIsAnswered }
 {}
