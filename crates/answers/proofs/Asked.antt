@@ -15,7 +15,7 @@ use Rattle.script.specs.Orders.Order.{bars, surcharges, prolongs, lifts, plans, 
 use Rattle.script.specs.Parts.{Said, said}
 use Rattle.answers.specs.Requests.{Brought, brought, room, requested, turned, turns_ahead, requests_of}
 use Rattle.answers.specs.Texts.{is_turn}
-use Rattle.answers.specs.Laws.{readable, call_of_turn, asks_in, turns_in, IsBlank, IsUnserved, EachOrderIsARequest, EndsARound, RoundsTakeTheirTurns}
+use Rattle.answers.specs.Laws.{readable, call_of_turn, asks_in, turn_calls_in, IsBlank, IsUnserved, EachOrderIsARequest, EndsARound, RoundsTakeTheirTurns}
 
 -- the orders that a line adds
 abbrev ask_of : Checked Order → List Order → List Order
@@ -113,7 +113,7 @@ one_turn (good (judges c v rs)) ts os h g = absurd (cc)
 one_turn (good (begins v s)) ts os h g = absurd (cc)
 one_turn (good (turns d)) ts os h g = ap (λ z. turn_for d ∷ z) (g h)
 
-turns_taken : (lines after : List Said) → asks_in lines ≡ [] → EndsARound after → turns_ahead (lines ++ after) ≡ map turn_for (turns_in lines)
+turns_taken : (lines after : List Said) → asks_in lines ≡ [] → EndsARound after → turns_ahead (lines ++ after) ≡ map turn_for (turn_calls_in lines)
 turns_taken [] [] h e = refl
 turns_taken [] (x ∷ xs) h e = ended x.order e.0 (turns_ahead xs) e.1 e.2
 turns_taken (x ∷ xs) after h e = one_turn x.order (turns_ahead (xs ++ after)) (filter_map readable xs) h (λ g. turns_taken xs after g e)

@@ -28,7 +28,7 @@ use Rattle.script.specs.Parts.{Said, said}
 use Rattle.answers.specs.Requests.{Brought, called, brought_of}
 use Rattle.answers.specs.Texts.{request_text, turn_line, of_turns, of_requests, after_request, accepted, answered, line_text, after_line, Remaining, remaining, printed, is_turn}
 use Rattle.answers.specs.Laws.{readable, asks_in, asks, TextOf, LinesAnswered, EachLineIsAnswered}
-use Rattle.answers.specs.Laws.TextOf.{fault_text, silent_text, refusal_text, answer_text, plan_text, judge_text}
+use Rattle.answers.specs.Laws.TextOf.{text_of_fault, text_of_silence, text_of_refusal, text_of_answer, text_of_plan, text_of_judgement}
 use Rattle.answers.proofs.Asked.{orders}
 
 -- no text is empty
@@ -40,40 +40,40 @@ after_some [] y ys = not_nil y ys
 after_some (x ∷ xs) y ys = not_nil x (xs ++ (y ∷ ys))
 
 some_text : {n k : ℕ} {c : Checked Order} {t : Bytes} → TextOf n k c t → t ≢ []
-some_text (fault_text e) = not_nil _ _
-some_text (silent_text d) = not_nil _ _
-some_text (refusal_text o n p) = not_nil _ _
-some_text (answer_text o z) = not_nil _ _
-some_text (plan_text c h n vs rs) = after_some _ _ _
-some_text (judge_text c h n ws vs rs) = after_some _ _ _
+some_text (text_of_fault e) = not_nil _ _
+some_text (text_of_silence d) = not_nil _ _
+some_text (text_of_refusal o n p) = not_nil _ _
+some_text (text_of_answer o z) = not_nil _ _
+some_text (text_of_plan c h n vs rs) = after_some _ _ _
+some_text (text_of_judgement c h n ws vs rs) = after_some _ _ _
 
 module _ (n k : ℕ) where
   one_turn : (d e : RoundCall) (r : Option Reply) → TextOf n k (good (turns d)) (turn_line k e r)
-  one_turn d e None = silent_text d
-  one_turn d e (Some (Treated r)) = answer_text (turns d) (pos r)
-  one_turn d Treat (Some Moved) = silent_text d
-  one_turn d (Report j) (Some Moved) = answer_text (turns d) (pos j)
-  one_turn d Settle (Some Moved) = silent_text d
-  one_turn d e (Some (Settled z)) = answer_text (turns d) z
-  one_turn d e (Some (Declined f)) = refusal_text (turns d) (round_number f) (round_places f)
+  one_turn d e None = text_of_silence d
+  one_turn d e (Some (Treated r)) = text_of_answer (turns d) (pos r)
+  one_turn d Treat (Some Moved) = text_of_silence d
+  one_turn d (Report j) (Some Moved) = text_of_answer (turns d) (pos j)
+  one_turn d Settle (Some Moved) = text_of_silence d
+  one_turn d e (Some (Settled z)) = text_of_answer (turns d) z
+  one_turn d e (Some (Declined f)) = text_of_refusal (turns d) (round_number f) (round_places f)
 
   turn_text : (d : RoundCall) (ts : List Turn) → TextOf n k (good (turns d)) (of_turns k ts)
-  turn_text d [] = silent_text d
+  turn_text d [] = text_of_silence d
   turn_text d (t ∷ ts) = one_turn d t.call t.reply
 
   accepted_text : (a : ℕ) (o : Order) (vs : List ℤ) (rs : List ℕ) → TextOf n k (good o) (accepted n k a o vs rs)
-  accepted_text a (bars s r f l) vs rs = answer_text _ (pos a)
-  accepted_text a (surcharges r x f l) vs rs = answer_text _ (pos a)
-  accepted_text a (prolongs p l) vs rs = answer_text _ (pos a)
-  accepted_text a (lifts p) vs rs = answer_text _ (pos a)
-  accepted_text a (plans c h) vs rs = plan_text c h a vs rs
-  accepted_text a (judges c h ws) vs rs = judge_text c h a ws vs rs
-  accepted_text a (begins h s) vs rs = answer_text _ (slice_index_or vs s (pos 0))
-  accepted_text a (turns d) vs rs = answer_text _ (pos a)
+  accepted_text a (bars s r f l) vs rs = text_of_answer _ (pos a)
+  accepted_text a (surcharges r x f l) vs rs = text_of_answer _ (pos a)
+  accepted_text a (prolongs p l) vs rs = text_of_answer _ (pos a)
+  accepted_text a (lifts p) vs rs = text_of_answer _ (pos a)
+  accepted_text a (plans c h) vs rs = text_of_plan c h a vs rs
+  accepted_text a (judges c h ws) vs rs = text_of_judgement c h a ws vs rs
+  accepted_text a (begins h s) vs rs = text_of_answer _ (slice_index_or vs s (pos 0))
+  accepted_text a (turns d) vs rs = text_of_answer _ (pos a)
 
   answered_text : (b : Brought) (r : Result ℕ CallRefusal) → TextOf n k (good b.order) (answered n k (Some r) b)
   answered_text b (Ok a) = accepted_text a b.order b.values b.remedies
-  answered_text b (Err f) = refusal_text b.order (call_number f) (call_places f)
+  answered_text b (Err f) = text_of_refusal b.order (call_number f) (call_places f)
 
 -- each request has an answer
 abbrev AllAnswered : List Brought → Type 0
@@ -95,7 +95,7 @@ request_step n k o ts (b ∷ bs) os h a =
     (subst (λ x. TextOf n k (good x) (answered n k b.answer b)) here (subst (λ x. TextOf n k (good b.order) (answered n k x b)) (sym a.0.1) (answered_text n k b a.0.0)), (rest, a.1))
 
 line_step : (n k : ℕ) (c : Checked Order) (l : Remaining) (os : List Order) → Covers l (filter (λ o. not (is_turn o)) (cons_option (readable (said k c)) os)) → Step n k c l (filter (λ o. not (is_turn o)) os)
-line_step n k (faulty e) l os h = (fault_text e, h)
+line_step n k (faulty e) l os h = (text_of_fault e, h)
 line_step n k (good (bars s r f p)) l os h = request_step n k (bars s r f p) l.round l.requests _ h.0 h.1
 line_step n k (good (surcharges r x f p)) l os h = request_step n k (surcharges r x f p) l.round l.requests _ h.0 h.1
 line_step n k (good (prolongs p q)) l os h = request_step n k (prolongs p q) l.round l.requests _ h.0 h.1

@@ -32,8 +32,8 @@ call_of_turn _ = None
 abbrev pub asks_in : List Said → List Order
 asks_in xs = filter (λ o. not (is_turn o)) (filter_map readable xs)
 
-abbrev pub turns_in : List Said → List RoundCall
-turns_in xs = filter_map call_of_turn (filter_map readable xs)
+abbrev pub turn_calls_in : List Said → List RoundCall
+turn_calls_in xs = filter_map call_of_turn (filter_map readable xs)
 
 -- a table before it is served: so many entries where there is a plan of so many visits, none elsewhere, and all the same
 pub record IsBlank {X : Type 0} (entry : X) (visits entries : ℕ) (xs : List X) : Type 0 where
@@ -68,7 +68,7 @@ pub record TakesTurns (n : ℕ) (before lines after : List Said) (k h s : ℕ) :
   pub request : Brought
   pub found : slice_get (requests_of n (before ++ (said k (good (begins h s)) ∷ (lines ++ after)))) (length (asks_in before)) ≡ Some request
   pub order : request.order ≡ begins h s
-  pub takes : request.round ≡ map (λ d. record { call = d; reply = None }) (turns_in lines)
+  pub takes : request.round ≡ map (λ d. record { call = d; reply = None }) (turn_calls_in lines)
 
 abbrev pub RoundsTakeTheirTurns : Type 0
 RoundsTakeTheirTurns = (n : ℕ) (before lines after : List Said) (k h s : ℕ) → asks_in lines ≡ [] → EndsARound after → TakesTurns n before lines after k h s
@@ -76,12 +76,12 @@ RoundsTakeTheirTurns = (n : ℕ) (before lines after : List Said) (k h s : ℕ) 
 -- the text of line k, which says this or has a fault: its last line bears its number, and only a plan or a judgement that is
 -- accepted has lines before it
 pub data TextOf (conditions k : ℕ) : Checked Order → Bytes → Type 0 where
-  fault_text : (e : Reported) → TextOf conditions k (faulty e) (fault_line k e)
-  silent_text : (d : RoundCall) → TextOf conditions k (good (turns d)) (silent_line k)
-  refusal_text : (o : Order) (n : ℕ) (p : ℕ × ℕ × ℕ) → TextOf conditions k (good o) (refusal_line k n p)
-  answer_text : (o : Order) (z : ℤ) → TextOf conditions k (good o) (answer_line k z)
-  plan_text : (c : By) (h n : ℕ) (vs : List ℤ) (rs : List ℕ) → TextOf conditions k (good (plans c h)) (table_lines conditions vs rs n ++ answer_line k (pos n))
-  judge_text : (c : By) (h n : ℕ) (ws : List ℕ) (vs : List ℤ) (rs : List ℕ) → TextOf conditions k (good (judges c h ws)) (table_lines conditions vs rs n ++ answer_line k (pos n))
+  text_of_fault : (e : Reported) → TextOf conditions k (faulty e) (fault_line k e)
+  text_of_silence : (d : RoundCall) → TextOf conditions k (good (turns d)) (silent_line k)
+  text_of_refusal : (o : Order) (n : ℕ) (p : ℕ × ℕ × ℕ) → TextOf conditions k (good o) (refusal_line k n p)
+  text_of_answer : (o : Order) (z : ℤ) → TextOf conditions k (good o) (answer_line k z)
+  text_of_plan : (c : By) (h n : ℕ) (vs : List ℤ) (rs : List ℕ) → TextOf conditions k (good (plans c h)) (table_lines conditions vs rs n ++ answer_line k (pos n))
+  text_of_judgement : (c : By) (h n : ℕ) (ws : List ℕ) (vs : List ℤ) (rs : List ℕ) → TextOf conditions k (good (judges c h ws)) (table_lines conditions vs rs n ++ answer_line k (pos n))
 
 -- whether a line says an order which is not a turn
 abbrev pub asks : Said → Bool
