@@ -1,2 +1,5 @@
 pub mod Written
 pub mod Telling
+pub mod Asked
+pub mod LineTexts
+pub mod Once

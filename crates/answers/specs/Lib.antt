@@ -4,3 +4,4 @@ pub mod Requests
 pub mod Texts
 pub mod Views
 pub mod Desk
+pub mod Laws

@@ -2,6 +2,7 @@
 #![tactic(auto)]
 
 pub mod desk;
+pub mod laws;
 mod lines;
 mod requests;
 mod text;
