@@ -1,19 +1,18 @@
 -- A line that is read is the order as it is written.
-use Rattle.std.proofs.Common.{◌≡◌, ℕ, zero, suc, ◌+◌, ◌-◌, ◌<◌, ◌≤◌, Bool, true, false, cond, List, [], ◌∷◌, length, map, replicate, get_or, ℤ, pos, nat_abs, Option, Some, None, sym, refl, ap, ◌∙◌, subst, inl, inr, arith}
+use Rattle.std.proofs.Common.{◌≡◌, ℕ, zero, suc, ◌-◌, ◌<◌, ◌≤◌, Bool, true, false, cond, List, [], ◌∷◌, length, map, replicate, get_or, ℤ, nat_abs, Option, Some, None, sym, refl, ap, ◌∙◌, subst, inl, inr, arith}
 use Rattle.std.specs.Prelude.{◌==◌, unsigned_abs}
 use Rattle.std.specs.List.{find}
 use Rattle.std.specs.Str.{bytes_eq}
-use Rattle.std.proofs.lemmas.List.{length-replicate}
 use Rattle.std.proofs.lemmas.Bool.{eqb-true}
 use Rattle.std.proofs.lemmas.Slice.Eq.{bytes_eq-Decides}
-use Rattle.fields.specs.Numerals.{Bytes, numeral, signed}
+use Rattle.fields.specs.Numerals.{Bytes, numeral}
 use Rattle.fields.specs.Lines.{split, joined}
 use Rattle.fields.specs.Kinds.{Kind, LetterOf}
-use Rattle.fields.specs.Checking.{Reported, reported, Checked, and_then, size_at, check_field, check_fields}
+use Rattle.fields.specs.Checking.{reported, and_then, check_field, check_fields}
 use Rattle.fields.specs.Checking.Checked.{good, faulty}
 use Rattle.fields.proofs.Splitting.{joined_split}
-use Rattle.fields.proofs.Faultless.{good_same, then_good, cond_good, field_sound, field_within, fields_say, spelled, Bounded, Says}
-use Rattle.fields.proofs.Faulted.{not_both, field_fine}
+use Rattle.fields.proofs.Faultless.{good_same, then_good, cond_good, field_sound, field_within, fields_say}
+use Rattle.fields.proofs.Faulted.{field_fine}
 use Rattle.quoting.specs.Asking.{letter_of, criterion_letters}
 use Rattle.script.specs.declared.word.Word.{Word}
 use Rattle.script.specs.declared.word.Word.TheVariants.{Bar, Surcharge, Prolong, Lift, Plan, Judge, Begin, Treat, Report, Settle}

@@ -1,5 +1,5 @@
 -- What an order is as a line, and which bytes are the book's part of an input, in the format's own terms.
-use Rattle.std.specs.Prelude.{◌≡◌, ℕ, ◌≤◌, ◌↔◌, ◌⊎◌, List, [], ◌∷◌, ◌++◌, length, map, codes, slice_index, unsigned_abs, EachIndex}
+use Rattle.std.specs.Prelude.{◌≡◌, ℕ, ◌≤◌, ◌↔◌, ◌⊎◌, List, [], ◌∷◌, ◌++◌, map, codes, slice_index, unsigned_abs, EachIndex}
 use Rattle.std.specs.List.{All}
 use Rattle.fields.specs.Numerals.{Bytes, numeral, signed}
 use Rattle.fields.specs.Lines.{joined, Without}
