@@ -44,9 +44,9 @@ without_e input e =
 
 plain_more : (l : Bytes) (ls : List Bytes) → All (Other 10) l → ends_book l ≡ false → PlainLines ls → PlainLines (l ∷ ls)
 plain_more l ls a h p = record {
-    no_newlines = All-cons (Without 10) l ls (λ i q. a i 0 q) p.no_newlines;
-    no_e = All-cons (λ l. ¬ BeginsWithE l) l ls (λ e. both_ways (ends_book l) h (ap ends_book e.1)) p.no_e;
-  }
+  no_newlines = All-cons (Without 10) l ls (λ i q. a i 0 q) p.no_newlines;
+  no_e = All-cons (λ l. ¬ BeginsWithE l) l ls (λ e. both_ways (ends_book l) h (ap ends_book e.1)) p.no_e;
+}
 
 abbrev Divided : Bytes → Bytes → Type 0
 Divided input book = EndsWithE book ⊎ (HasNoE input × (book ≡ input))
@@ -71,6 +71,6 @@ divided l (l' ∷ ls) a b = from (ends_book l) refl (divided l' ls (All-head (Al
 
 pub parts_are_exact_lem : PartsAreExact
 parts_are_exact_lem input book script whole = (
-    λ e. let c = split_clear 10 input in subst (λ b. Divided input b) (sym e) (subst (λ x. Divided x (book_part input)) (joined_split 10 input) (divided (split 10 input).0 (split 10 input).1 c.0 c.1)),
-    elim [ inl e ↦ up_to_e input book script whole e | inr p ↦ p.1 ∙ without_e input p.0 ],
-  )
+  λ e. let c = split_clear 10 input in subst (λ b. Divided input b) (sym e) (subst (λ x. Divided x (book_part input)) (joined_split 10 input) (divided (split 10 input).0 (split 10 input).1 c.0 c.1)),
+  elim [ inl e ↦ up_to_e input book script whole e | inr p ↦ p.1 ∙ without_e input p.0 ],
+)

@@ -91,10 +91,12 @@ judged k (f ∷ f' ∷ gs) zs n h =
     let visits = field_sound number k 3 f' r'.0 r'.2 in
     let few = field_within number k 3 f' r'.0 r'.2 in
     let table = remedies_said k 4 m gs r'.1 r'.3 in
-    subst (λ ys. Spelled Judge (f ∷ f' ∷ gs) (order_from Judge ys)) e
-    (ap (λ x. joined 9 (text_of Judge) (x ∷ f' ∷ gs)) by
-    ∙ ap (λ x. joined 9 (text_of Judge) ((letter_of (by_letter (nat_abs r.0)) ∷ []) ∷ x ∷ gs)) visits
-    ∙ ap (λ xs. joined 9 (text_of Judge) ((letter_of (by_letter (nat_abs r.0)) ∷ []) ∷ numeral (nat_abs r'.0) ∷ xs)) table.0, (few.1, table.1))
+    subst (λ ys. Spelled Judge (f ∷ f' ∷ gs) (order_from Judge ys)) e (
+      ap (λ x. joined 9 (text_of Judge) (x ∷ f' ∷ gs)) by
+          ∙ ap (λ x. joined 9 (text_of Judge) ((letter_of (by_letter (nat_abs r.0)) ∷ []) ∷ x ∷ gs)) visits
+          ∙ ap (λ xs. joined 9 (text_of Judge) ((letter_of (by_letter (nat_abs r.0)) ∷ []) ∷ numeral (nat_abs r'.0) ∷ xs)) table.0,
+      (few.1, table.1),
+    )
 
 planned : (k : ℕ) (fs : List Bytes) (zs : List ℤ) → check_fields k 2 (criterion_letters ∷ number ∷ []) fs ≡ good zs → Spelled Plan fs (order_from Plan zs)
 planned k [] zs h = absurd cc
