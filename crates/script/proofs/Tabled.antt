@@ -116,11 +116,11 @@ pub judge_stopped : (x : Checked Order) (y : Checked (List ℤ)) (by v : ℤ) (e
 judge_stopped x y by v (Faulty f) h t = h ∙ ap (λ r. and_then r (λ zs. good (order_from Judge (by ∷ v ∷ zs)))) t
 judge_stopped x y by v (NoMemory m) h t = tt
 
-by_its_letter : (by : By) → by_letter (letter_of by) ≡ by
+pub by_its_letter : (by : By) → by_letter (letter_of by) ≡ by
 by_its_letter Mean = refl
 by_its_letter Floor = refl
 
-sizes : (xs : List ℕ) → map unsigned_abs (map pos xs) ≡ xs
+pub sizes : (xs : List ℕ) → map unsigned_abs (map pos xs) ≡ xs
 sizes [] = refl
 sizes (x ∷ xs) = ap (λ ys. x ∷ ys) (sizes xs)
 

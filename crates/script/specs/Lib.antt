@@ -4,3 +4,4 @@ pub mod Forms
 pub mod Commands
 pub mod Parts
 pub mod Scripts
+pub mod Laws

@@ -1,5 +1,5 @@
 -- The two parts of an input, a book file and a script, and what the lines of the script say.
-use Rattle.std.specs.Prelude.{ℕ, suc, Bool, false, cond, List, [], ◌∷◌, ◌++◌, ◌==◌}
+use Rattle.std.specs.Prelude.{ℕ, suc, Bool, false, cond, List, [], ◌∷◌, ◌++◌, length, ◌==◌}
 use Rattle.fields.specs.Numerals.{Bytes}
 use Rattle.fields.specs.Lines.{split}
 use Rattle.fields.specs.Checking.{reported, Checked}
@@ -19,6 +19,10 @@ said k x = record { number = k; order = x }
 abbrev pub ends_book : Bytes → Bool
 ends_book [] = false
 ends_book (x ∷ xs) = x == 69
+
+-- how many newlines (10) stand in some bytes
+abbrev pub newlines : Bytes → ℕ
+newlines bs = length (split 10 bs).1
 
 -- In what follows a line l and the lines after it are given, of which the last is not ended.
 

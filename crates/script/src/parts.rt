@@ -1,5 +1,5 @@
 // The two parts of an input.
-ghost use Rattle.std.specs.Prelude.{◌≡◌, ◌+◌, ◌<◌, ◌^◌, length};
+ghost use Rattle.std.specs.Prelude.{◌≡◌, ◌+◌, ◌<◌, ◌^◌, ◌++◌, length};
 
 use fields::lines::cut_line;
 
@@ -13,10 +13,12 @@ pub struct Parts<'a> {
 }
 
 impl<'a> Parts<'a> {
-    ghost use Rattle.script.specs.Parts.{book_part, script_of, script_from};
+    ghost use Rattle.script.specs.Parts.{book_part, newlines, script_of, script_from};
 
     // The book's part goes up to and with the first line that begins with `E`; without one it is all of the input.
     pub fn of(input: &'a [u8]) -> Parts<'a>
+        ensures whole { result.book.now ++ result.script.now ≡ input.now }
+        ensures first { result.first ≡ 1 + newlines result.book.now }
         ensures book { result.book.now ≡ book_part input.now }
         ensures script { script_from result.first result.script.now ≡ script_of input.now }
     {

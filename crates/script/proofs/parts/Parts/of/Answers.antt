@@ -1,5 +1,5 @@
-use Rattle.std.proofs.Common.{◌+◌, ap, ◌∙◌}
-use Rattle.script.specs.Parts.{script_from}
+use Rattle.std.proofs.Common.{◌+◌, sym, ap, ◌∙◌}
+use Rattle.script.specs.Parts.{newlines, script_from}
 use Rattle.script.proofs.Parting.{past_line, last_of_book, none_of_script, begins}
 use Rattle.script.proofs.parts.Parts.of.Goals as goal
 
@@ -14,3 +14,9 @@ loop-line-preserved c = past_line c.loop-line.invariant c.in-Ok.ensures (begins 
 
 pub returns-clause-book : goal.returns-clause-book
 returns-clause-book c = (none_of_script c.loop-line.invariant c.in_default.ensures.unended).0
+
+pub returns-then-starts_with-clause-first : goal.returns-then-starts_with-clause-first
+returns-then-starts_with-clause-first c = (last_of_book c.loop-line.invariant c.in-Ok.ensures (begins c.in-Ok.line.text.now _ c.starts_with.ensures.value ∙ c.if-starts_with.true)).2 ∙ ap (λ bs. 1 + newlines bs) (sym c.split_at.ensures.front)
+
+pub returns-clause-first : goal.returns-clause-first
+returns-clause-first c = (none_of_script c.loop-line.invariant c.in_default.ensures.unended).2
