@@ -32,7 +32,7 @@ def bugs():
 def first_refusal(said):
     """The first place that the checker names: a fact that is not proved in the source, or an error."""
     for line in said.split('\n'):
-        found = re.match(r'(?:note: )?(?:\./)?((?:src|proofs)/\S+?):(\d+):\d+: (error|it is not proved)', line)
+        found = re.match(r'(?:note: )?(?:\./)?((?:src|proofs)/\S+?):(\d+):\d+: (error|it is not proved|`search` found no proof)', line)
         if found:
             return f'`{found[1]}:{found[2]}`'
     return said.strip().split('\n')[-1]
