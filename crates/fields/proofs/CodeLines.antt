@@ -1,7 +1,8 @@
 -- What is cut from bytes at the first place of a byte.
-use Rattle.std.proofs.Common.{◌≡◌, ℕ, suc, ◌+◌, ◌-◌, ◌<◌, ◌≤◌, Bool, true, false, cond, eqb, ltb, List, [], ◌∷◌, ◌++◌, length, take, drop, Option, Some, None, MatchOption, sym, refl, ap, ◌∙◌, subst, add-one, arith, length-drop}
+use Rattle.std.proofs.Common.{◌≡◌, ℕ, suc, ◌+◌, ◌-◌, ◌<◌, ◌≤◌, Bool, true, false, cond, eqb, ltb, List, [], ◌∷◌, ◌++◌, length, get_or, take, drop, Option, Some, None, MatchOption, sym, refl, ap, ◌∙◌, subst, add-one, eq-eqb, arith, length-drop}
 use Rattle.std.specs.List.{position, position_or_len, count_by}
 use Rattle.std.proofs.lemmas.List.{take_all}
+use Rattle.std.proofs.lemmas.List.Sums.{position_or_len_is}
 use Rattle.std.proofs.lemmas.List.Recursion.{is_position_or_len, is_count_by}
 use Rattle.std.proofs.lemmas.Bool.{cond_both, eqb-true, ltb-true, ltb-false}
 use Rattle.fields.specs.Numerals.{Bytes}
@@ -34,8 +35,17 @@ module _ (c : ℕ) where
       let Place = λ (x : Option ℕ). MatchOption x (split c bs ≡ (bs, [])) (λ at. (at ≡ length (split c bs).0) × (at < length bs)) in
       subst Place (sym e) (cond_both (ltb n (length bs)) (Some n) None Place (λ t. (sym front, ltb-true n (length bs) t)) (λ t. split_whole bs (omega (arith, front, ltb-false n (length bs) t))))
 
+  -- the first c, by the places before it
+  pub first_at : (bs : Bytes) (at : ℕ) → at < length bs → ((k : ℕ) → k < at → eqb (get_or bs k 0) c ≡ false) → get_or bs at 0 ≡ c → at ≡ length (split c bs).0
+  first_at bs at l before here = sym (front_length bs ∙ position_or_len_is (λ x. eqb x c) bs at 0 (omega arith) before (λ _. eq-eqb (get_or bs at 0) c here))
+
+  pub none_at : (bs : Bytes) → ((k : ℕ) → k < length bs → eqb (get_or bs k 0) c ≡ false) → split c bs ≡ (bs, [])
+  none_at bs none =
+      let whole : position_or_len (λ x. eqb x c) bs ≡ length bs = position_or_len_is (λ x. eqb x c) bs (length bs) 0 (omega arith) none (λ l. absurd (omega arith)) in
+      split_whole bs (omega (arith, front_length bs, whole))
+
   -- bytes are parted at a place n
-  abbrev Parted : Bytes → ℕ → Bytes → Type 0
+  abbrev pub Parted : Bytes → ℕ → Bytes → Type 0
   Parted bs n rest = (bs ≡ take n bs ++ (c ∷ rest)) × (split c bs ≡ (take n bs, (split c rest).0 ∷ (split c rest).1))
 
   split_at : (bs : Bytes) → length (split c bs).0 < length bs → Parted bs (length (split c bs).0) (drop (suc (length (split c bs).0)) bs)
@@ -45,7 +55,7 @@ module _ (c : ℕ) where
       (λ e k. (ap (λ y. y ∷ xs) (eqb-true x c e), refl))
       (λ e k. let r = split_at xs (omega arith) in (ap (λ t. x ∷ t) r.0, ap (λ p. (x ∷ p.0, p.1)) r.1)) h
 
-  parted_at : (bs : Bytes) (at : ℕ) → at ≡ length (split c bs).0 → at < length bs → Parted bs at (take (length bs - (at + 1)) (drop (at + 1) bs))
+  pub parted_at : (bs : Bytes) (at : ℕ) → at ≡ length (split c bs).0 → at < length bs → Parted bs at (take (length bs - (at + 1)) (drop (at + 1) bs))
   parted_at bs at e h =
       let after : take (length bs - (at + 1)) (drop (at + 1) bs) ≡ drop (suc at) bs = take_all _ (drop (at + 1) bs) (omega (arith, length-drop (at + 1) bs)) ∙ ap (λ (n : ℕ). drop n bs) (add-one at) in
       subst (Parted bs at) (sym after) (subst (λ n. Parted bs n (drop (suc n) bs)) (sym e) (split_at bs (omega arith)))

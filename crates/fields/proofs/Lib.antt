@@ -6,5 +6,4 @@ pub mod Passing
 pub mod Printed
 pub mod CodeLines
 pub mod CodeNumerals
-pub mod CodeFolds
 pub mod CodeNumbers

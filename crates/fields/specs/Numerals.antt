@@ -18,6 +18,10 @@ abbrev pub signed : ℤ → Bytes
 signed (pos n) = numeral n
 signed (negsuc n) = 45 ∷ numeral (suc n)
 
+-- each is a digit (48 to 57)
+abbrev pub AllDigits : Bytes → Type 0
+AllDigits bs = (i : ℕ) → i < length bs → (48 ≤ slice_index bs i) × (slice_index bs i ≤ 57)
+
 -- one digit or more (48 to 57), the first a zero only where it stands alone
 pub record BaseTen (bs : Bytes) : Type 0 where
   pub some : 0 < length bs

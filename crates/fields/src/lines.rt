@@ -1,15 +1,17 @@
 // Lines of bytes, each ended by a newline.
-ghost use Rattle.std.specs.Prelude.{◌≡◌, ◌<◌, [], ◌∷◌, ◌++◌, length, MatchOption, MatchResult};
+ghost use Rattle.std.specs.Prelude.{◌≡◌, ◌<◌, [], ◌∷◌, ◌++◌, ◌==◌, length, take, count_by, MatchOption, MatchResult};
 ghost use Rattle.fields.specs.Lines.{split};
 ghost use Rattle.fields.specs.Views.{LineCut, NoLine};
 
 use super::faults::LineFault;
 
-// A line without its newline, and its number.
+// A line without its newline, its number, and how many tabs stand in it: they are counted while its end is looked for.
 #[derive(Clone, Copy)]
 pub struct Line<'a> {
     pub number: usize,
     pub text: &'a [u8],
+    pub(crate) tabs: usize,
+    ghost counted: { tabs ≡ count_by (λ x. x == 9) text.now },
 }
 
 // Where a byte first stands.
@@ -28,12 +30,28 @@ pub(crate) fn parted<'a>(byte: u8, bytes: &'a [u8]) -> Option<(&'a [u8], &'a [u8
     Some((&bytes[..at], &bytes[at + 1..]))
 }
 
+// Where the first newline stands, and how many tabs before it.
+fn end_of(bytes: &[u8]) -> Option<(usize, usize)>
+    ensures { MatchOption result (split 10 bytes.now ≡ (bytes.now, [])) (λ p. (p.0 ≡ length (split 10 bytes.now).0) × (p.0 < length bytes.now) × (p.1 ≡ count_by (λ x. x == 9) (take p.0 bytes.now))) }
+{
+    let mut tabs = 0;
+    for (at, byte) in bytes.iter().enumerate() {
+        match *byte {
+            b'\n' => return Some((at, tabs)),
+            b'\t' => tabs += 1,
+            _ => {}
+        }
+    }
+    None
+}
+
 // The line that the bytes begin with, and the bytes after it.
 pub fn cut_line<'a>(number: usize, bytes: &'a [u8]) -> Result<(Line<'a>, &'a [u8]), LineFault>
     ensures { MatchResult result (λ p. LineCut number bytes.now p.0.number p.0.text.now p.1.now) (NoLine number bytes.now) }
 {
-    match parted(b'\n', bytes) {
-        Some((text, rest)) => Ok((Line { number, text }, rest)),
-        None => Err(LineFault::Unended { line: number }),
-    }
+    let Some((end, tabs)) = end_of(bytes) else {
+        return Err(LineFault::Unended { line: number });
+    };
+    let text = &bytes[..end];
+    Ok((Line { number, text, tabs }, &bytes[end + 1..]))
 }

@@ -1,6 +1,6 @@
 // Numbers in base ten.
-ghost use Rattle.std.specs.Prelude.{◌≡◌, ◌-◌, ◌^◌, ◌≤◌, min, IfOk, MatchOption, unsigned_abs};
-ghost use Rattle.fields.specs.Numerals.{BaseTen, value};
+ghost use Rattle.std.specs.Prelude.{◌≡◌, ◌^◌, ◌≤◌, min, IfOk, MatchOption, unsigned_abs};
+ghost use Rattle.fields.specs.Numerals.{AllDigits, BaseTen, value};
 ghost use Rattle.fields.specs.Kinds.Kind.{from_to, either_way};
 ghost use Rattle.fields.specs.Checking.{check_field};
 ghost use Rattle.fields.specs.Views.{bytes_of, Answers, AnswersSigned};
@@ -8,16 +8,31 @@ ghost use Rattle.fields.specs.Views.{bytes_of, Answers, AnswersSigned};
 use super::faults::FieldFault;
 use super::parts::{Field, Placed};
 
-// The number that digits without a leading zero write, held at the greatest.
+// A number is held here: none that a field may have is as large.
+const HELD: u64 = 1 << 32;
+
+// The number that digits write, held at 2^32.
+fn digits(part: &[u8]) -> Option<u64>
+    ensures { MatchOption result (AllDigits part.now → ⊥) (λ n. AllDigits part.now × (n ≡ min (value part.now) (2 ^ 32))) }
+{
+    let mut number: u64 = 0;
+    // a loop: of a fold the closure would have to keep the number small
+    for digit in part {
+        if !digit.is_ascii_digit() {
+            return None;
+        }
+        number = (number * 10 + u64::from(*digit - b'0')).min(HELD);
+    }
+    Some(number)
+}
+
+// The number that digits without a leading zero write, held at 2^32.
 fn decimal(part: &[u8]) -> Option<u64>
-    ensures { MatchOption result (BaseTen part.now → ⊥) (λ n. BaseTen part.now × (n ≡ min (value part.now) (2 ^ 64 - 1))) }
+    ensures { MatchOption result (BaseTen part.now → ⊥) (λ n. BaseTen part.now × (n ≡ min (value part.now) (2 ^ 32))) }
 {
     match part {
         [] | [b'0', _, ..] => None,
-        _ => part.iter().try_fold(0u64, |sum, b| match *b {
-            b'0'..=b'9' => Some(sum.saturating_mul(10).saturating_add(u64::from(*b - b'0'))),
-            _ => None,
-        }),
+        _ => digits(part),
     }
 }
 

@@ -91,11 +91,11 @@ impl<'a> Fields<'a> {
 pub fn counted(line: Line<'_>, after: usize) -> Result<(), LineFault>
     ensures { MatchResult result (λ _. length (split 9 line.entry.text.now).1 ≡ after) (λ e. (e ≡ LineFault.Count line.entry.number) × (length (split 9 line.entry.text.now).1 ≢ after)) }
 {
-    let tabs = line.text.iter().filter(|b| **b == b'\t').count();
+    let Line { number, tabs, .. } = line;
     if tabs == after {
         Ok(())
     } else {
-        Err(LineFault::Count { line: line.number })
+        Err(LineFault::Count { line: number })
     }
 }
 
