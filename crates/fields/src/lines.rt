@@ -14,6 +14,17 @@ pub struct Line<'a> {
     ghost counted: { tabs ≡ count_by (λ x. x == 9) text.now },
 }
 
+impl<'a> Line<'a> {
+    // The line of a text that was cut by other means; its tabs are counted here.
+    pub fn new(number: usize, text: &'a [u8]) -> Line<'a>
+        ensures number { result.number ≡ number }
+        ensures text { result.text.now ≡ text.now }
+    {
+        let tabs = text.iter().filter(|byte| **byte == b'\t').count();
+        Line { number, text, tabs }
+    }
+}
+
 // Where a byte first stands.
 pub fn place_of(byte: u8, bytes: &[u8]) -> Option<usize>
     ensures { MatchOption result (split byte bytes.now ≡ (bytes.now, [])) (λ at. (at ≡ length (split byte bytes.now).0) × (at < length bytes.now)) }
