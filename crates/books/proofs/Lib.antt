@@ -6,3 +6,4 @@ pub mod Places
 pub mod Positives
 pub mod Once
 pub mod Rows
+pub mod TableRows

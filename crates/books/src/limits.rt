@@ -7,7 +7,7 @@ ghost use Rattle.books.specs.Making.{FirstFailing};
 pub(crate) fn is_small(money: i64) -> bool
     ensures { Decides result (SmallMoney money) }
 {
-    money.unsigned_abs() <= 1_000_000
+    (-1_000_000..=1_000_000).contains(&money)
 }
 
 // The first place where one is not.

@@ -66,6 +66,7 @@ impl<'a, 'v, B: Book, C: Criterion> Stage<'a, 'v, B, C> {
 
 impl<B: Book, C: Criterion> Stage<'_, '_, B, C> {
     // The account of all outcomes of a remedy; `row` is room for them.
+    #[inline(always)]
     fn account(&self, condition: usize, remedy: usize, row: &mut Row) -> C::Account
         ensures { result ≡ entered (C.ops self.now.by.now) (B.model self.now.book.now) self.now.visit self.now.left condition remedy (at (C.ops self.now.by.now) self.now.later.now) (B.model self.now.book.now).conditions }
     {
@@ -82,6 +83,7 @@ impl<B: Book, C: Criterion> Stage<'_, '_, B, C> {
     }
 
     // The value of giving a remedy.
+    #[inline(always)]
     fn value_under(&self, condition: usize, remedy: usize, row: &mut Row) -> C::Value
         ensures { result ≡ remedied (C.ops self.now.by.now) (B.model self.now.book.now) self.now.visit self.now.left condition remedy (at (C.ops self.now.by.now) self.now.later.now) }
     {

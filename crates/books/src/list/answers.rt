@@ -1,14 +1,14 @@
 // What a list book answers.
 ghost use Rattle.std.specs.Prelude.{◌≡◌, ◌<◌, pos, MatchOption};
 ghost use Rattle.books.specs.Alike.{some_above};
-ghost use Rattle.books.specs.Entries.{IsRow};
+ghost use Rattle.books.specs.Entries.{IsRow, no_record};
 ghost use Rattle.books.specs.Listed.{listed};
 ghost use Rattle.books.specs.Lawfuls.{list_book_lawful};
 ghost use Rattle.books.specs.Means.{list_means};
 
 use super::ListBook;
 use crate::limits::last_alike;
-use crate::record::{Place, Record};
+use crate::record::Record;
 use model::Book;
 use model::row::Row;
 
@@ -44,6 +44,16 @@ impl<'a> ListBook<'a> {
         !self.row_of(condition, remedy).is_empty()
     }
 
+    // The record of an outcome within the sizes, if there is one: looked up in its row, which rises by next condition.
+    fn look_up(&self, condition: usize, remedy: usize, next: usize) -> Option<&'a Record>
+        requires { (condition < self.now.sizes.conditions) × (remedy < self.now.sizes.remedies) × (next < self.now.sizes.conditions) }
+        ensures { MatchOption result (listed self.now.listing.records.now condition remedy next ≡ no_record) (λ found. listed self.now.listing.records.now condition remedy next ≡ found.now) }
+    {
+        let row = self.row_of(condition, remedy);
+        let found = row.get(row.partition_point(|record| record.next < next));
+        found.filter(|found| found.next == next)
+    }
+
     // The record of an outcome, if it is listed; none is outside the sizes.
     fn record_of(
         &self,
@@ -56,11 +66,7 @@ impl<'a> ListBook<'a> {
         ensures amount { MatchOption result ((list_means self.now).amount visit condition remedy next ≡ pos 0) (λ found. (list_means self.now).amount visit condition remedy next ≡ found.now.amount) }
     {
         if self.sizes.has_outcome(visit, condition, remedy, next) {
-            self.listing.look_up(Place {
-                condition,
-                remedy,
-                next,
-            })
+            self.look_up(condition, remedy, next)
         } else {
             None
         }

@@ -1,7 +1,6 @@
 // Records in their order, and how they are searched.
-ghost use Rattle.std.specs.Prelude.{◌≡◌, ◌*◌, ◌<◌, MatchOption};
-ghost use Rattle.books.specs.Entries.{AllPlaced, KeysRise, StandBefore, RowsStart, rank, no_record};
-ghost use Rattle.books.specs.Listed.{listed};
+ghost use Rattle.std.specs.Prelude.{◌*◌, ◌<◌};
+ghost use Rattle.books.specs.Entries.{AllPlaced, KeysRise, StandBefore, RowsStart, rank};
 
 use crate::record::{Place, Record};
 
@@ -21,15 +20,6 @@ impl<'a> Listing<'a> {
     {
         self.records
             .partition_point(|record| record.place() < place)
-    }
-
-    // The record at a place, if there is one.
-    pub(super) fn look_up(&self, place: Place) -> Option<&'a Record>
-        requires { (place.remedy < 8) × (place.next < 32) }
-        ensures { MatchOption result (listed self.now.records.now place.condition place.remedy place.next ≡ no_record) (λ found. listed self.now.records.now place.condition place.remedy place.next ≡ found.now) }
-    {
-        let found = self.records.get(self.before(place));
-        found.filter(|found| found.place() == place)
     }
 
     // How many of the records stand before a row: a condition and a remedy, in order 8 × condition + remedy.

@@ -8,6 +8,7 @@ ghost use Rattle.books.specs.Tables.{spot};
 use super::TableBook;
 use crate::limits::last_alike;
 use model::Book;
+use model::row::{Outcome, Row};
 
 impl TableBook<'_> {
     // Where the row of a condition and a remedy starts in the tables: two numbers, as for a row of a list book.
@@ -38,6 +39,26 @@ impl TableBook<'_> {
             Some(self.first_of(condition, remedy) + next)
         } else {
             None
+        }
+    }
+
+    // An outcome whose share is known.
+    fn outcome_at(
+        &self,
+        visit: usize,
+        condition: usize,
+        remedy: usize,
+        next: usize,
+        share: u32,
+    ) -> Outcome
+        ensures next { result.next ≡ next }
+        ensures share { result.share ≡ share }
+        ensures amount { result.amount ≡ (table_means self.now).amount visit condition remedy next }
+    {
+        Outcome {
+            next,
+            share,
+            amount: self.amount(visit, condition, remedy, next),
         }
     }
 }
@@ -76,6 +97,20 @@ impl Book for TableBook<'_> {
 
     fn worth(&self, condition: usize) -> i64 {
         self.worths.get(condition).copied().unwrap_or(0)
+    }
+
+    fn row(&self, visit: usize, condition: usize, remedy: usize, row: &mut Row) {
+        row.clear();
+        if !self.sizes.has(visit, condition, remedy) {
+            return;
+        }
+        let first = self.first_of(condition, remedy);
+        for next in 0..self.sizes.conditions {
+            let share = self.shares[first + next];
+            if share > 0 {
+                row.push(self.outcome_at(visit, condition, remedy, next, share));
+            }
+        }
     }
 
     fn alike_until(&self, visit: usize) -> usize {

@@ -4,22 +4,8 @@ use Rattle.model.specs.declared.row.Outcome.{Outcome}
 use Rattle.books.specs.declared.list.ListBook.{ListBook}
 use Rattle.books.specs.declared.record.Record.{Record}
 use Rattle.books.specs.Entries.{no_record, outcome_of, StandBefore, IsRow, rank}
-use Rattle.books.proofs.Rows.{outside, finished, later, written, stand_more}
+use Rattle.books.proofs.Rows.{outside, finished, later, written, stand_more, inside_row, of_row}
 use Rattle.books.proofs.list.answers.ListBookBook.row.Goals as goal
-
--- a record of the row's is of the row
-module _ (book : ListBook) (s x i : ℕ) (records : List Record) (row : IsRow book.listing.records.now s x records) (xl : x < 8) (l : i < length records) where
-  abbrev at : ℕ
-  at = row.first + i
-
-  inside : at < length book.listing.records.now
-  inside = let within = row.to.within in omega arith
-
-  of_row : ((get_or book.listing.records.now at no_record).condition ≡ s) × ((get_or book.listing.records.now at no_record).remedy ≡ x)
-  of_row =
-      let low = row.from.above at (omega arith) inside in
-      let high = row.to.below at (omega arith) in
-      let p = book.listing.placed at inside in (omega arith, omega arith)
 
 -- the record after the row is not
 after_row : (book : ListBook) (s x : ℕ) (records : List Record) (row : IsRow book.listing.records.now s x records) → row.first + length records < length book.listing.records.now → ((get_or book.listing.records.now (row.first + length records) no_record).condition ≡ s) × ((get_or book.listing.records.now (row.first + length records) no_record).remedy ≡ x) → ⊥
@@ -51,7 +37,7 @@ loop-found-preserved c =
     let some = sym c.if-not-has.ensures in
     let few_remedies = book.sizes.fit.few_remedies in
     let less = ltb-true c.args.remedy book.sizes.remedies (and_parts _ (ltb c.args.remedy book.sizes.remedies) some).1 in
-    let l = inside book c.args.condition c.args.remedy c.loop-found.found-index c.row_of-found-items.result.now row (omega arith) c.loop-found-test.true in
+    let l = inside_row book c.args.condition c.args.remedy c.loop-found.found-index c.row_of-found-items.result.now row (omega arith) c.loop-found-test.true in
     let (a, b) = of_row book c.args.condition c.args.remedy c.loop-found.found-index c.row_of-found-items.result.now row (omega arith) c.loop-found-test.true in
     let same = row.same c.loop-found.found-index c.loop-found-test.true in
     let p = book.records_placed at l in
