@@ -8,7 +8,7 @@ use std::io::{Read, Write};
 
 fn main(rt: HostRuntime) -> anyhow::Result<()> {
     let heap = rt.alloc();
-    let mut input = Vec::with_capacity(heap, LONGEST + 1)?;
+    let mut input = Vec::new(heap);
     // One byte more than the limit shows that there are too many.
     rt.stdin().take(LONGEST as u64 + 1).read_to_end(&mut input)?;
     let mut tables = Tables::new(heap)?;
